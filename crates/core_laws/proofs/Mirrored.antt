@@ -79,7 +79,7 @@ said told t b doubt (start shelf) old new says = start_left told t shelf b old n
 said told t b doubt (change op) old new says = says
 said told t b doubt restart old new says = says
 
--- changes behind changes
+-- changes after changes
 reckons_on : (b g h : Past) (cs ds : List Change) → ReckonsTo b cs g → ReckonsTo g ds h → ReckonsTo b (cs ++ ds) h
 reckons_on b g h [] ds is rest = subst (λ (x : Past). ReckonsTo x ds h) is rest
 reckons_on b g h (c ∷ cs) ds (ops, works, more) rest = (ops, works, reckons_on (changed b c ops) g h cs ds more rest)
@@ -134,7 +134,7 @@ module _ {D : Type 0} (told : Type 0) (state : D → DiskState) (t : told) (disk
           let both : length (read_in state c.calls ++ read_by state (take n cs)) ≤ a = ended in
           absurd (omega (arith, le, before, both, length-append (read_in state c.calls) (read_by state (take n cs))))
 
-  -- or behind it
+  -- or after it
   in_rest : (d : D) (b : Past) (c : Command D) (cs : List (Command D)) (doubt : Option Op) (a : ℕ) (file : List ℕ) (x : IsCommand told state d b c)
       → StandsForFirst state x.next cs doubt (a - length (read_in state c.calls)) file → StandsForFirst state b (c ∷ cs) doubt a file
   in_rest d b c cs doubt a file x h = record {
@@ -173,7 +173,7 @@ pub standbys_stand : {D : Type 0} (told : Type 0) (state : D → DiskState) → 
 standbys_stand told state disk t d b cs p are pair unseen keeps is = find told state t (λ x. disk x t) d b cs p are pair.primary.answered keeps.moment pair.standby.file keeps.not_before
     (ap (λ (l : List (List ℕ)). slice_get l keeps.moment) (sym is) ∙ get_more (moments pair.primary) unseen keeps.moment pair.standby.file keeps.read)
 
--- what stands behind the older ones
+-- what there is after the older ones
 behind_older : {A : Type 0} (xs ys : List A) (k : ℕ) → slice_get (xs ++ ys) (length xs + k) ≡ slice_get ys k
 behind_older [] ys k = ap (slice_get ys) (let none : 0 + k ≡ k = omega arith in none)
 behind_older (x ∷ xs) ys k = ap (slice_get (x ∷ (xs ++ ys))) (let one : suc (length xs) + k ≡ suc (length xs + k) = omega arith in one) ∙ behind_older xs ys k
@@ -189,7 +189,7 @@ module _ {D : Type 0} (told : Type 0) (state : D → DiskState) (disk : (d : D) 
       find told state t (λ x. disk x t) d b cs p are m.by n pair.standby.file (omega (arith, not_before, answered))
       (sym (behind_older m.older ((state d).reads_as ∷ read_by state cs) n) ∙ ap (slice_get (m.older ++ (state d).reads_as ∷ read_by state cs)) (sym there) ∙ ap (λ (l : List (List ℕ)). slice_get l keeps.moment) (sym m.are) ∙ get_more (moments pair.primary) m.unseen keeps.moment pair.standby.file keeps.read)
 
--- the moment whose file the standby has comes behind the earlier ones
+-- the moment whose file the standby has comes after the earlier ones
 behind : {D : Type 0} (told : Type 0) (state : D → DiskState) → ((d : D) → told → IsDisk (state d)) → told → (d : D) (b : Past) (cs : List (Command D)) (p : Provisioner D) → AreCommands told state d b cs p → (pair : Pair) (m : IsMirroredBehind state d cs pair.primary) → KeepsUp pair → StandsForFirst state b cs p.doubt m.by pair.standby.file
 behind told state disk t d b cs p are pair m keeps =
     let not_before = keeps.not_before in

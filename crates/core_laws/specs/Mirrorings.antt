@@ -31,7 +31,7 @@ pub data Task : Type 0 where
   restart : Task
 
 -- A command: what the journal is called for, the operation that was in doubt when it began, its calls on the disk, and the changes that the table
--- took behind it, before the next one.
+-- took after it, before the next one.
 pub record Command (D : Type 0) : Type 0 where
   pub task : Task
   pub doubt : Option Op
@@ -44,7 +44,7 @@ MayBe b doubt (start shelf) = λ file. IsOld b file ⊎ IsFresh (header shelf.sh
 MayBe b doubt (change op) = IsOldOrOneMore b doubt op
 MayBe b doubt restart = IsOldOrDoubted b doubt
 
--- a start on a settled disk, behind which this stands
+-- a start on a settled disk, after which this is so
 pub record HasStarted (told : Type 0) (shelf : Contents) (b : Past) (old new : DiskState) : Type 0 where
   pub opening : Opening
   pub fabric : FabricId
@@ -61,7 +61,7 @@ Says told b doubt (start shelf) old new = HasStarted told shelf b old new
 Says told b doubt (change op) old new = LeavesOnly old new (IsOldOrOneMore b doubt op)
 Says told b doubt restart old new = LeavesOnly old new (IsOldOrDoubted b doubt)
 
--- the command was done on this disk, where this stood behind the changes
+-- the command was done on this disk, where this was so after the changes
 pub record IsCommand {D : Type 0} (told : Type 0) (state : D → DiskState) (d : D) (b : Past) (c : Command D) : Type 0 where
   pub calls : AreCalls state d c.calls
   pub says : Says told b c.doubt c.task (state d) (state (last_of d c.calls))
@@ -76,7 +76,7 @@ IsBetween told state b p =
     ⊎ (((op : Op) × (c : Change) × (r : RollingAt) × Rolls told state b op c p r)
     ⊎ ((lacking : Option Change) × (g : Past) × (r : RollingAt) × Resumes told state b lacking g p r)))
 
--- commands from this disk and these changes on, each where the one before ended, behind which this is the Provisioner
+-- commands from this disk and these changes on, each where the one before ended, after which this is the Provisioner
 abbrev pub AreCommands : {D : Type 0} → Type 0 → (D → DiskState) → D → Past → List (Command D) → Provisioner D → Type 0
 AreCommands told state d b [] p = (p.journal.0 ≡ d) × IsBetween told state b p
 AreCommands told state d b (c ∷ cs) p = (x : IsCommand told state d b c) × AreCommands told state (last_of d c.calls) x.next cs p
@@ -90,7 +90,7 @@ abbrev pub made_in : {D : Type 0} → List (Command D) → List Change
 made_in [] = []
 made_in (c ∷ cs) = c.made ++ made_in cs
 
--- a file stands for the changes in front of this command, or for one more; or behind all commands for those and maybe the one in doubt
+-- a file stands for the changes in front of this command, or for one more; or after all commands for those and maybe the one in doubt
 abbrev pub StandsAt : {D : Type 0} → Past → Option Op → Option (Command D) → List ℕ → Type 0
 StandsAt b doubt None = IsOldOrDoubted b doubt
 StandsAt b doubt (Some c) = MayBe b c.doubt c.task
@@ -125,7 +125,7 @@ StandbysStandSince {D} told state = told → (d : D) (b : Past) (cs : List (Comm
     → (pair : Pair) → (0 < pair.standby.synced → KeepsUp pair) → (m : IsMirroredSince state d cs pair.primary)
     → IfSome (named pair.standby) (StandsForFirst state b cs p.doubt m.by)
 
--- The standby was joined behind that: first the disk read these, from the joining on what the primary's moments say, and then those that the primary didn't see any
+-- The standby was joined after that: first the disk read these, from the joining on what the primary's moments say, and then those that the primary didn't see any
 -- more. By the last sync that was answered while Joined so many had come.
 pub record IsMirroredBehind {D : Type 0} (state : D → DiskState) (d : D) (cs : List (Command D)) (primary : Primary) : Type 0 where
   pub earlier : List (List ℕ)
@@ -150,7 +150,7 @@ CopiesStand {D} told state = told → (d : D) (b : Past) (cs : List (Command D))
 abbrev pub started_by : {D : Type 0} → Contents → List (Call D) → Command D
 started_by shelf calls = record { task = start shelf; doubt = None; calls = calls; made = [] }
 
--- A start on a settled disk is the first command, behind which the Provisioner of its state is.
+-- A start on a settled disk is the first command, after which the Provisioner of its state is.
 abbrev pub StartsAreCommands : {D : Type 0} → Type 0 → (D → DiskState) → Type 0
 StartsAreCommands {D} told state = told → (d : D) (shelf : Contents) (fabric : FabricId) (due : Bool) (number : ℕ) (calls : List (Call D)) (s : State D) → IsSettled (state d) → AreCalls state d calls → disk_home s.home ≡ Some (last_of d calls)
     → Opens told (state d).reads_as shelf fabric due number (opening_of state s) → LeavesOpened shelf (state d) (state (last_of d calls)) → Begins told state s

@@ -6,7 +6,7 @@ ghost use Rattle.core_laws.specs.Mirrorings.{CopiesStand, StandbysStand, Standby
 
 use dxc_disk::Disk;
 
-/// Changes come to one table, colouring and number of switches, each is counted, and a change behind them meets one limit, or none.
+/// Changes come to one table, colouring and number of switches, each is counted, and a change after them meets one limit, or none.
 pub fn limits_are_one()
     ensures come_to { ChangesComeToOne }
     ensures counted { ChangesAreCounted }
@@ -48,12 +48,12 @@ pub fn standbys_are_adopted<D: Disk>()
 /// The commands may be those since any moment at which the Provisioner was between two of them, whatever came before: then the last sync that was answered while
 /// Joined has to be none before that moment (`since`).
 ///
-/// The standby may also have been joined behind that moment, in the middle of a command too: a mirror that was lost joins whoever stands by anew
+/// The standby may also have been joined after that moment, in the middle of a command too: a mirror that was lost joins whoever stands by anew
 /// (`behind`).
 ///
 /// Each premise is what clauses give. What a crash at any moment of a command leaves: `any_moment` of `note`, `settle` and `recover`, and of
 /// `Core::open` and `Core::adopt` with what they found, which make a start the first command (`start`); of a command that a crash cut short, what it
-/// would have done is unseen. What stands behind the changes: `finishes` of `finish`, `ends` of `end_recovery`; all other calls leave it, and the
+/// would have done is unseen. What there is after the changes: `finishes` of `finish`, `ends` of `end_recovery`; all other calls leave it, and the
 /// journal too. The Provisioner between two commands: `begun`, `home`, `halted`, `rolls` and `resumes`. The calls on the disk, and the primary's
 /// moments: `moments_are_left`, `calls_are_moments` and `answers_stay` of `standby_link::laws`; that the standby keeps up from its first Sync on:
 /// `standbys_keep_up` there, and that no write is too long for it: `short` of `Disk::write_at`.

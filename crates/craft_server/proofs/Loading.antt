@@ -5,13 +5,12 @@ use Rattle.std.specs.Arc.{arc_value}
 use Rattle.dxc_causes.specs.Causes.{Counted, Rose}
 use Rattle.dxc_disk.specs.declared.mem_disk.MemDisk.{MemDisk}
 use Rattle.dxc_disk.specs.Disks.{DiskState}
-use Rattle.dxc_disk.specs.MemView.{mem_state}
 use Rattle.dxc_num.specs.Dimensions.{ports}
 use Rattle.dxc_outside.specs.Links.{LinkState}
 use Rattle.dxc_model.specs.declared.entry.Entry.{Entry}
 use Rattle.fabric_words.specs.contracts.fabric.Fabric as fabric_row
 use Rattle.shelf_file.specs.Contents.{Contents}
-use Rattle.turnstile.specs.Passing.{Gate, Token}
+use Rattle.turnstile.specs.Passing.{TurnstileView, Token}
 use Rattle.turnstile.specs.Turning.{Each}
 use Rattle.user_admin.specs.Histories.{Opening as UsersOpening}
 use Rattle.user_admin.specs.Openings.{IsOpening as IsUsersOpening}
@@ -28,7 +27,6 @@ use Rattle.craft_session.specs.Seats.{PlaceAt, SeatAt, seat_at}
 use Rattle.craft_session.proofs.Scripts.{script_seen}
 use Rattle.dxc_load.specs.declared.disk.LoadDisk.{LoadDisk}
 use Rattle.dxc_load.specs.declared.summary.Summary.{Summary}
-use Rattle.dxc_load.specs.Storing.{load_disk}
 use Rattle.dxc_load.specs.Sending.{fabric_of, link_state, unread}
 use Rattle.dxc_args.specs.declared.status.Status.{Status}
 use Rattle.dxc_args.specs.declared.status.Status.TheVariants.{BadWords}
@@ -38,7 +36,7 @@ use Rattle.dxc_element.specs.declared.stock.Stock.{Stock}
 use Rattle.dxc_element.specs.Loads.{IsLoadElement, IsLoadStarted, NotLoaded}
 use Rattle.dxc_element.specs.Stocks.{IsCounted, IsLeft, IsStockAfter}
 use Rattle.dxc_element.proofs.Wording.{sent_words}
-use Rattle.craft_server.specs.Loads.{IsLoad, IsLoaded, IsLoadedOn, IsLoadServed, IsSummed, LoadsOn, load_moments, stock_in}
+use Rattle.craft_server.specs.Loads.{IsLoad, IsLoaded, IsLoadedOn, IsLoadServed, IsSummed, LoadLent, load_moments, stock_in}
 use Rattle.craft_server.proofs.Starting.{of_disk, users_of_disk}
 
 -- of an element that was opened, and of none
@@ -50,17 +48,21 @@ pub on_started : {A : Type 0} (P : A → Type 0) (r : Result A Status) (x : A) �
 on_started P r x is has = subst (λ p. IfOk p P) is has
 
 module _ (number stops mid later : ℕ) (r : Result Summary Status) where
-  pub loaded_by : (x : Result (Element LoadDisk MemDisk) Status) → MatchResult x IsLoadStarted (NotLoaded stops mid) → MatchResult x (λ e. mid ≡ stops) (λ s. stops ≤ mid) → LoadsOn (Unit {0}) (Unit {0}) load_disk mem_state number x mid later r → MatchResult r (IsLoaded number) (NotLoaded stops later)
+  -- what was loaded, by an element in memory
+  abbrev LoadsIn : Result (Element LoadDisk MemDisk) Status → Type 0
+  LoadsIn x = MatchResult x (λ e. MatchResult r (IsLoaded number) (NotLoaded mid later) × MatchResult r (λ v. later ≡ mid) (λ s. mid ≤ later)) (λ s. (r ≡ Err s) × (later ≡ mid))
+
+  pub loaded_by : (x : Result (Element LoadDisk MemDisk) Status) → MatchResult x IsLoadStarted (NotLoaded stops mid) → MatchResult x (λ e. mid ≡ stops) (λ s. stops ≤ mid) → LoadsIn x → MatchResult r (IsLoaded number) (NotLoaded stops later)
   loaded_by (Ok e) started same told = subst (λ (n : ℕ). MatchResult r (IsLoaded number) (NotLoaded n later)) same told.0
   loaded_by (Err s) not up told = subst (λ (p : Result Summary Status). MatchResult p (IsLoaded number) (NotLoaded stops later)) (sym told.0) (subst (λ (n : ℕ). NotLoaded stops n s) (sym told.1) not)
 
-  pub stops_by : (x : Result (Element LoadDisk MemDisk) Status) → MatchResult x (λ e. mid ≡ stops) (λ s. stops ≤ mid) → LoadsOn (Unit {0}) (Unit {0}) load_disk mem_state number x mid later r → MatchResult r (λ v. later ≡ stops) (λ s. stops ≤ later)
+  pub stops_by : (x : Result (Element LoadDisk MemDisk) Status) → MatchResult x (λ e. mid ≡ stops) (λ s. stops ≤ mid) → LoadsIn x → MatchResult r (λ v. later ≡ stops) (λ s. stops ≤ later)
   stops_by (Ok e) same told = subst (λ (n : ℕ). MatchResult r (λ v. later ≡ n) (λ s. n ≤ later)) same told.1
   stops_by (Err s) up told = subst (λ (p : Result Summary Status). MatchResult p (λ v. later ≡ stops) (λ e. stops ≤ later)) (sym told.0) (subst (λ (n : ℕ). stops ≤ n) (sym told.1) up)
 
 -- no status of the load is that of words which aren't understood
-pub load_words : (number : ℕ) (told : Type 0) (k l : LinkState) (stops later : ℕ) (status : Status) → IsLoad number told k l stops later status → status ≢ BadWords
-load_words number told k l stops later status is = λ bad. elim is [
+pub load_words : (number : ℕ) (told : Type 0) (before after : LoadLent) (status : Status) → IsLoad number told before after status → status ≢ BadWords
+load_words number told before after status is = λ bad. elim is [
   | inl not ↦ (elim not.1 [ inl memory ↦ (let no : Status_of.NoMemory ≡ BadWords = sym memory ∙ bad in cc) | inr stopped ↦ (let no : Status_of.Stopped ≡ BadWords = sym stopped.0 ∙ bad in cc) ])
   | inr ran ↦ sent_words ran.3.0 (sym ran.3.2 ∙ bad)
 ]
@@ -75,9 +77,9 @@ not_spent true reads e is ended counted few = let no : Spent ≡ End = sym is �
 not_spent false reads e is ended counted few = let low = few refl in absurd (omega (arith, counted.reached, low))
 
 -- what the pass finds that a place gave up
-module _ {D : Type 0} (state : D → DiskState) (p : Token) (t u : Gate (State D)) (s : SeatAt) (same : u ≡ t) (is : seat_at state p t ≡ s) where
+module _ {D : Type 0} (state : D → DiskState) (p : Token) (t u : TurnstileView (State D)) (s : SeatAt) (same : u ≡ t) (is : seat_at state p t ≡ s) where
   given_up : seat_at state p u ≡ s
-  given_up = ap (λ (v : Gate (State D)). seat_at state p v) same ∙ is
+  given_up = ap (λ (v : TurnstileView (State D)). seat_at state p v) same ∙ is
 
   pub room_given : (room : ℕ) → ports s.opening.first.fold.table.shape ≤ room → ports (opening_of state u.first).first.fold.table.shape ≤ room
   room_given room enough = subst (λ (x : SeatAt). ports x.opening.first.fold.table.shape ≤ room) (sym given_up) enough

@@ -12,7 +12,6 @@ use Rattle.dxc_jobs.proofs.Counting.{rose_behind}
 use Rattle.dxc_args.specs.declared.status.Status.{Status}
 use Rattle.dxc_args.specs.declared.status.Status.TheVariants.{Done, CannotOpen, NoThread, NoMemory}
 use Rattle.dxc_element.specs.Openings.{Sources}
-use Rattle.craft_server.specs.Runs.{Lent, RanServe}
 use Rattle.craft_server.specs.Serving.{CameTo, IsServing, JobsTold, LeftPlaces, ServedSite, SiteAt}
 
 module _ (jobs faults later : ℕ) (old new : SpawnerState) where
@@ -55,7 +54,7 @@ none_started jobs faults later old status closed other = record {
   only = λ a b not. other not;
 }
 
--- on what was opened behind other things
+-- on what was opened after other things
 pub serving_behind : (jobs faults mid later : ℕ) (old new : SpawnerState) (status : Status) → faults ≤ mid → IsServing jobs mid later old new status → IsServing jobs faults later old new status
 serving_behind jobs faults mid later old new status more s = record {
   done = s.done;
@@ -76,14 +75,4 @@ module _ (D U : Type 0) {N L C G : Type 0} (told : JobsTold N L C G) where
     serving = serving_behind (site.workers + 16) before.opener.faults mid after.opener.faults old new status later serving;
     jobs = subst (λ (r : Contents). CameTo D U told site status r o p) same jobs;
     closed = λ none. subst (λ (r : Contents). LeftPlaces told.gone r o p) same (closed none);
-  }
-
-module _ (E : Type 0) {N L C G : Type 0} (told : JobsTold N L C G) where
-  -- with terminal and clock as they were, at the site that a line names
-  pub ran_serve : {J : Type 0} (site other : SiteAt) → site ≡ other → (before after : Lent J) → after.terminal ≡ before.terminal → after.clock ≡ before.clock → (s : Contents) (o : Opening) (p : UsersOpening) (status : Status)
-      → ServedSite E E told site before.sources after.sources before.spawner after.spawner s o p status → RanServe E told other before after s o p status
-  ran_serve site other same before after terminal clock s o p status served = record {
-    served = subst (λ (x : SiteAt). ServedSite E E told x before.sources after.sources before.spawner after.spawner s o p status) same served;
-    terminal = terminal;
-    clock = clock;
   }

@@ -6,7 +6,6 @@ use Rattle.dxc_disk.specs.declared.mem_disk.MemDisk.{MemDisk}
 use Rattle.dxc_disk.specs.MemView.{mem_state}
 use Rattle.dxc_model.specs.declared.user.SessionUser.{SessionUser}
 use Rattle.dxc_model.specs.Equipment.{empty_table}
-use Rattle.dxc_model.specs.Tables.{Board}
 use Rattle.dxc_num.specs.Dimensions.{Dimensions}
 use Rattle.dxc_outside.specs.declared.clock.Moment.{Moment}
 use Rattle.dxc_outside.specs.Links.{LinkState}
@@ -25,7 +24,7 @@ use Rattle.dxc_args.specs.declared.status.Status.TheVariants.{BadWords, NoMemory
 use Rattle.dxc_element.specs.declared.opening.Element.{Element}
 use Rattle.dxc_element.specs.Loads.{IsInMemory, NotLoaded}
 use Rattle.craft_server.specs.Scripts.{RanSession}
-use Rattle.craft_server.specs.Trials.{IsTrialElement, IsTrialOn, RanTrial, TrialLent, TrialTold, IsUntried, trial_lent}
+use Rattle.craft_server.specs.Trials.{IsTrialElement, IsTrialOn, IsTried, RanTrial, TrialLent, TrialTold, TriesOn, shape_in, trial_lent}
 use Rattle.craft_server.proofs.Wording.{end_words}
 
 -- on a new file the table is empty
@@ -70,15 +69,23 @@ module _ (told : TrialTold) (shape : Dimensions) (x : Element told.D told.D) (el
         session = ran;
       }
 
+-- the shape of an element in memory is the trial's
+shape_is : (shape : Dimensions) (s : Contents) (x : Element MemDisk MemDisk) → IsTrialShelf shape s → IsInMemory s x → shape_in x ≡ shape
+shape_is shape s x is new = ap (λ (y : Contents). y.shape) new.started.shelf ∙ is.shape
+
+pub if_shape : (shape : Dimensions) (s : Contents) (x : Result (Element MemDisk MemDisk) Status) (stops later : ℕ) → IsTrialShelf shape s → MatchResult x (IsInMemory s) (NotLoaded stops later) → IfOk x (λ e. shape_in e ≡ shape)
+if_shape shape s (Ok x) stops later is new = shape_is shape s x is new
+if_shape shape s (Err e) stops later is not = tt
+
 -- of an element in memory, and of none
-pub if_in_memory : (shape : Dimensions) (s : Contents) (x : Result (Element MemDisk MemDisk) Status) (stops later : ℕ) → IsTrialShelf shape s → MatchResult x (IsInMemory s) (NotLoaded stops later) → IfOk x (IsTrialElement (Unit {0}) mem_state shape)
-if_in_memory shape s (Ok x) stops later is new = record { shelf = s; is_shelf = is; is_new = new }
+pub if_in_memory : (shape : Dimensions) (s : Contents) (x : Result (Element MemDisk MemDisk) Status) (stops later : ℕ) → IsTrialShelf shape s → MatchResult x (IsInMemory s) (NotLoaded stops later) → IfOk x (IsTried (Unit {0}) mem_state)
+if_in_memory shape s (Ok x) stops later is new = record { shelf = s; is_shelf = subst (λ (d : Dimensions). IsTrialShelf d s) (sym (shape_is shape s x is new)) is; is_new = new }
 if_in_memory shape s (Err e) stops later is not = tt
 
-pub tried_by : (told : TrialTold) (shape : Dimensions) (P : Element told.D told.D → Type 0) (x : Result (Element told.D told.D) Status) (k : LinkState) (c : List Moment) (stops mid : ℕ) (after : TrialLent) (status : Status) → MatchResult x P (NotLoaded stops mid) → MatchResult x (λ e. mid ≡ stops) (λ s. stops ≤ mid)
-    → MatchResult x (λ e. IsTrialOn told shape (trial_lent k c mid) after status) (IsUntried (trial_lent k c mid) after status) → IsTrialOn told shape (trial_lent k c stops) after status
-tried_by told shape P (Ok e) k c stops mid after status new same did = subst (λ (n : ℕ). IsTrialOn told shape (trial_lent k c n) after status) same did
-tried_by told shape P (Err s) k c stops mid after status not up did = inl (record {
+pub tried_by : (told : TrialTold) (shape : Dimensions) (P : Element told.D told.D → Type 0) (x : Result (Element told.D told.D) Status) (k : LinkState) (c : List Moment) (stops mid : ℕ) (after : TrialLent) (status : Status) → IfOk x (λ e. shape_in e ≡ shape) → MatchResult x P (NotLoaded stops mid) → MatchResult x (λ e. mid ≡ stops) (λ s. stops ≤ mid)
+    → TriesOn told x (trial_lent k c mid) after status → IsTrialOn told shape (trial_lent k c stops) after status
+tried_by told shape P (Ok e) k c stops mid after status is new same did = subst (λ (d : Dimensions). IsTrialOn told d (trial_lent k c stops) after status) is (subst (λ (n : ℕ). IsTrialOn told (shape_in e) (trial_lent k c n) after status) same did)
+tried_by told shape P (Err s) k c stops mid after status is not up did = inl (record {
   terminal = ap (λ (m : TrialLent). m.terminal) did.0;
   clock = ap (λ (m : TrialLent). m.clock) did.0;
   why = subst (λ (w : ℕ × Status). NotLoaded stops w.0 w.1) (λ i. (sym (ap (λ (m : TrialLent). m.stops) did.0) i, sym did.1 i)) not;

@@ -2,6 +2,7 @@
 use Rattle.std.specs.Prelude.{ℕ, List, [], ◌∷◌, ◌++◌, ◌⊎◌, Option, Some, None}
 use Rattle.dxc_outside.specs.Asked.{Asking, AskedFor, asked_each, copy_named, lines_named, listener_named}
 use Rattle.dxc_args.specs.declared.line.Line.{Line}
+use Rattle.dxc_args.specs.declared.line.ServeLine.{ServeLine}
 use Rattle.dxc_args.specs.declared.line.Line.TheVariants.{Script, Trial, Check, Export, Serve, Standby, Load}
 use Rattle.dxc_args.specs.declared.status.Status.{Status}
 use Rattle.dxc_args.specs.Lines.{IsLine}
@@ -19,13 +20,17 @@ abbrev pub opened_asked : Named → Option (List ℕ) → List Asking
 opened_asked names None = files_asked names
 opened_asked names (Some peer) = mirror_asked names peer
 
+-- what a line of `serve` asks for
+abbrev pub serve_asked : ServeLine → List Asking
+serve_asked x = opened_asked (named x.shelf x.journal) x.peer ++ site_asked x.lines x.address x.workers
+
 -- all that a line asks for
 abbrev pub line_asked : Line → List Asking
 line_asked (Script shelf journal) = files_asked (named shelf journal)
 line_asked (Trial shape) = []
 line_asked (Check shelf journal) = files_asked (named shelf journal)
 line_asked (Export shelf journal) = files_asked (named shelf journal)
-line_asked (Serve shelf journal address lines workers peer) = opened_asked (named shelf journal) peer ++ site_asked lines address workers
+line_asked (Serve x) = serve_asked x
 line_asked (Standby journal address) = copy_named journal ∷ listener_named address ∷ []
 line_asked (Load number) = []
 

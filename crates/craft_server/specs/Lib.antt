@@ -1,5 +1,6 @@
 pub mod Askings
 pub mod Callers
+pub mod Entrances
 pub mod Notings
 pub mod Statuses
 pub mod Loads

@@ -1,5 +1,6 @@
 -- What the load mode does.
 use Rattle.std.specs.Prelude.{◌≡◌, ◌≤◌, ◌⊎◌, ◌*◌, ℕ, true, List, [], ◌∷◌, Result, Err, MatchResult}
+use Rattle.dxc_disk.specs.declared.disk.Disk.{Ghosts as DiskOf}
 use Rattle.dxc_disk.specs.Disks.{DiskState}
 use Rattle.dxc_disk.specs.MemView.{mem_state}
 use Rattle.dxc_outside.specs.declared.clock.Moment.{Moment}
@@ -65,7 +66,7 @@ pub record IsSumOf (link : LoadLink) (v : Summary) : Type 0 where
   pub carried : v.carried ≡ carried_in (worker_of link).notes
   pub each : AreLoadFrames (fabric_of link).size (worker_of link).number 10000 (worker_of link).notes
 
--- such a session was summed up, with what stands behind the history that its place has seen; no call of its journal's disk failed
+-- such a session was summed up, with what stands after the history that its place has seen; no call of its journal's disk failed
 pub record IsSummed (disk_told : Type 0) {D : Type 0} (state : D → DiskState) (old : PlaceAt) (k : LinkState) (v : Summary) : Type 0 where
   pub new : PlaceAt
   pub link : LoadLink
@@ -102,17 +103,34 @@ pub record IsLoadedOn (told users_told : Type 0) {D U : Type 0} (state : D → D
   pub sound : faults_in wrote.answered.walk.history ≡ 0
   pub sum : IsSumOf link v
 
+-- the disks of an element that is loaded, whether they tell what they hold, and the script's number
+pub record LoadTold (D U : Type 0) : Type 1 where
+  pub disk : DiskOf D
+  pub users_disk : DiskOf U
+  pub number : ℕ
+
+abbrev pub load_told : {D U : Type 0} → DiskOf D → DiskOf U → ℕ → LoadTold D U
+load_told disk users_disk number = record { disk = disk; users_disk = users_disk; number = number }
+
 -- the same where the element was opened, by the stops before and after
-abbrev pub LoadsOn : (told users_told : Type 0) {D U : Type 0} (state : D → DiskState) (users_state : U → DiskState) (number : ℕ) → Result (Element D U) Status → (stops later : ℕ) → Result Summary Status → Type 0
-LoadsOn told users_told state users_state number opened stops later r =
-    MatchResult opened (λ x. MatchResult r (IsLoadedOn told users_told state users_state number) (NotLoaded stops later) × MatchResult r (λ v. later ≡ stops) (λ s. stops ≤ later)) (λ s. (r ≡ Err s) × (later ≡ stops))
+abbrev pub LoadsOn : {D U : Type 0} → LoadTold D U → Result (Element D U) Status → (stops later : ℕ) → Result Summary Status → Type 0
+LoadsOn w opened stops later r =
+    MatchResult opened (λ x. MatchResult r (IsLoadedOn w.disk.told w.users_disk.told w.disk.state w.users_disk.state w.number) (NotLoaded stops later) × MatchResult r (λ v. later ≡ stops) (λ s. stops ≤ later)) (λ s. (r ≡ Err s) × (later ≡ stops))
 
 -- on journals in memory
 abbrev pub IsLoaded : ℕ → Summary → Type 0
 IsLoaded number v = IsLoadedOn (Unit {0}) (Unit {0}) load_disk mem_state number v
 
+-- the terminal, and how often the gate has stopped
+pub record LoadLent : Type 0 where
+  pub terminal : LinkState
+  pub stops : ℕ
+
+abbrev pub load_lent : LinkState → ℕ → LoadLent
+load_lent terminal stops = record { terminal = terminal; stops = stops }
+
 -- the summary was written to the link, or a part of it where a write failed; or nothing was, and why
-abbrev pub IsLoad : (number : ℕ) (told : Type 0) (k l : LinkState) (stops later : ℕ) → Status → Type 0
-IsLoad number told k l stops later status =
-    ((l ≡ k) × NotLoaded stops later status)
-    ⊎ ((v : Summary) × IsLoaded number v × (later ≡ stops) × ((sent : Sent) × IsSent told k l sent (summary_line v) × (status ≡ status_of_sent sent)))
+abbrev pub IsLoad : (number : ℕ) (told : Type 0) (before after : LoadLent) → Status → Type 0
+IsLoad number told before after status =
+    ((after.terminal ≡ before.terminal) × NotLoaded before.stops after.stops status)
+    ⊎ ((v : Summary) × IsLoaded number v × (after.stops ≡ before.stops) × ((sent : Sent) × IsSent told before.terminal after.terminal sent (summary_line v) × (status ≡ status_of_sent sent)))

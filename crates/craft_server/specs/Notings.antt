@@ -19,7 +19,7 @@ use Rattle.craft_session.specs.Timely.{telling}
 use Rattle.craft_session.specs.Walks.{begun_by}
 use Rattle.craft_server.specs.declared.links.LinksEnd.{LinksEnd}
 use Rattle.craft_server.specs.declared.links.LinksEnd.TheVariants as links
-use Rattle.craft_server.specs.Callers.{InTurn, ServedCaller, Standing, none_yet, one_more, standing}
+use Rattle.craft_server.specs.Callers.{InTurn, ServedAll, ServedCaller, Standing, none_yet, one_more, standing}
 
 -- how a session's end is noted
 abbrev pub ending_of : SessionEnd → Ending
@@ -32,7 +32,7 @@ ending_of end.Unattended = ending.Unattended
 ending_of end.Idle = ending.Idle
 ending_of end.Cancelled = ending.Cancelled
 
--- behind these, where accepts went on failing, that nobody is let in any more
+-- after these, where accepts went on failing, that nobody is let in any more
 abbrev pub to_the_end : List Note → LinksEnd → List Note
 to_the_end notes links.End = notes
 to_the_end notes links.Failed = notes ++ note.Closed ∷ []
@@ -83,6 +83,10 @@ module _ {L K C G N : Type 0} (m : Means L K C G N) where
     pub callers : List K
     pub came : m.hall.listener.told → (m.hall.listener.state old.listener).coming ≡ callers ++ (m.hall.listener.state new.listener).coming
     pub served : InTurn NotedCaller (standing_in old) callers (standing_in new)
+
+  -- the same of callers alone
+  abbrev pub ServedBetween : (old new : LentTo L C G N) → Type 0
+  ServedBetween old new = ServedAll m.disk_told m.clock m.hall.link m.gate m.hall.listener.told (m.hall.listener.state old.listener).coming (m.hall.listener.state new.listener).coming (standing_in old) (standing_in new)
 
   -- of each of them what its session noted, and how it ended
   abbrev pub notes_in : (old : Standing G) (came : List K) (new : Standing G) → InTurn NotedCaller old came new → List Note

@@ -15,18 +15,19 @@ use Rattle.standby_link.specs.declared.mirror_disk.MirrorDisk.{MirrorDisk}
 use Rattle.user_admin.specs.Histories.{Opening as UsersOpening}
 use Rattle.xc_core.specs.States.{Opening}
 use Rattle.dxc_args.specs.declared.line.Line.{Line}
+use Rattle.dxc_args.specs.declared.line.ServeLine.{ServeLine}
 use Rattle.dxc_args.specs.declared.line.Line.TheVariants.{Script, Trial, Check, Export, Serve, Standby, Load}
 use Rattle.dxc_args.specs.declared.status.Status.{Status}
 use Rattle.dxc_args.specs.declared.status.Status.TheVariants.{BadWords, NoMemory}
 use Rattle.dxc_args.specs.Lines.{IsLine}
 use Rattle.dxc_element.specs.Exports.{IsExport}
 use Rattle.dxc_element.specs.Listings.{IsCheck}
-use Rattle.craft_server.specs.Loads.{IsLoad}
+use Rattle.craft_server.specs.Loads.{IsLoad, load_lent}
 use Rattle.dxc_element.specs.Openings.{Began, Found, Named, OpenedOn, Opens, Sources, WasLetGo, named, opened_on}
 use Rattle.dxc_element.specs.Peers.{Mirrors}
 use Rattle.craft_server.specs.Scripts.{IsUnplaced, RanAndLeft}
 use Rattle.craft_server.specs.Trials.{IsTrialOn, memory_told, trial_lent}
-use Rattle.craft_server.specs.Serving.{JobsTold, ServedSite, SiteAt, named_in, site_at}
+use Rattle.craft_server.specs.Serving.{JobsTold, ServedSite, SiteAt, names_in, site_in}
 use Rattle.dxc_jobs.specs.Standbys.{StandsBy}
 use Rattle.craft_server.specs.declared.world.World.{Ghosts as WorldOf}
 use Rattle.craft_server.specs.Sites.{asked_after, asked_before, jobs_across}
@@ -90,7 +91,7 @@ module _ (told : Told) {D : Type 0} (state : D → DiskState) where
 
   -- the load was run, with opener, clock and spawner untouched
   pub record RanLoad (number : ℕ) (before after : Lent D) (status : Status) : Type 0 where
-    pub load : IsLoad number told.terminal before.terminal after.terminal before.sources.stops after.sources.stops status
+    pub load : IsLoad number told.terminal (load_lent before.terminal before.sources.stops) (load_lent after.terminal after.sources.stops) status
     pub opener : after.sources.opener ≡ before.sources.opener
     pub journal_at : after.sources.journal_at ≡ before.sources.journal_at
     pub clock : after.clock ≡ before.clock
@@ -109,20 +110,10 @@ pub record RanServe (E : Type 0) {N L C G : Type 0} (jobs : JobsTold N L C G) {D
   pub terminal : after.terminal ≡ before.terminal
   pub clock : after.clock ≡ before.clock
 
-module _ (told : Told) {N L C G : Type 0} (jobs : JobsTold N L C G) {D : Type 0} (state : D → DiskState) where
-  -- what a line's mode did on what was opened
-  abbrev pub Ran : (l : Line) (before after : Lent D) (status : Status) → (f : Found told.opener (named_in l) before.sources) → Opening → Began told.opener told.disk state (named_in l) before.sources f.shelf → Type 0
-  Ran (Script shelf journal) before after status f o u = RanScript told state before after f.shelf o u.opening f.disk u.found.disk status
-  Ran (Trial shape) before after status f o u = ⊥
-  Ran (Check shelf journal) before after status f o u = RanCheck told state before after (opened_on f.disk u.found.disk f.shelf o) status
-  Ran (Export shelf journal) before after status f o u = RanExport told state before after (opened_on f.disk u.found.disk f.shelf o) status
-  Ran (Serve shelf journal address lines workers peer) before after status f o u = RanServe D jobs (site_at address lines workers) before after f.shelf o u.opening status
-  Ran (Standby journal address) before after status f o u = ⊥
-  Ran (Load number) before after status f o u = ⊥
-
-  -- what its names stand for was opened, or why not, and the mode ran on it
-  abbrev pub OpensFor : Line → (before after : Lent D) → Status → Type 0
-  OpensFor l before after status = Opens told.opener told.disk state told.gone (named_in l) before.sources after.sources (IsUntouched before after) (Ran l before after status) status
+module _ (told : Told) {D : Type 0} (state : D → DiskState) where
+  -- what the names stand for was opened, or why not, and this was done on it
+  abbrev pub OpensFor : (names : Named) (before after : Lent D) → ((f : Found told.opener names before.sources) → Opening → Began told.opener told.disk state names before.sources f.shelf → Type 0) → Status → Type 0
+  OpensFor names before after done status = Opens told.opener told.disk state told.gone names before.sources after.sources (IsUntouched before after) done status
 
 -- the words are no line, or memory was wanting to read them
 abbrev pub NoLine : List (List ℕ) → Status → Type 0
@@ -132,6 +123,11 @@ module _ (told : Told) {N L C G : Type 0} (jobs : JobsTold N L C G) {D K J : Typ
   -- what the names stand for was opened and mirrored, or why not, and sessions and frame workers were started on it
   abbrev pub MirrorsFor : (names : Named) → SiteAt → (before after : Lent D) → Status → Type 0
   MirrorsFor names site before after status = Mirrors told.disk told.peer state peer told.opener told.gone names before.sources after.sources (IsUntouched before after) (λ f o u. RanServe (MirrorDisk D K) jobs site before after f.shelf o u.opening status) status
+
+  -- without a peer, or with one
+  abbrev pub ServesFor : (named_peer : Option (List ℕ)) → ServeLine → (before after : Lent D) → Status → Type 0
+  ServesFor None x before after status = OpensFor told state (names_in x) before after (λ f o u. RanServe D jobs (site_in x) before after f.shelf o u.opening status) status
+  ServesFor (Some name) x before after status = MirrorsFor (names_in x) (site_in x) before after status
 
   -- a standby ran, by what the opener would hand out, with terminal, clock, spawner and gate untouched
   pub record RanBy (journal address : List ℕ) (before after : Lent D) (status : Status) : Type 0 where
@@ -143,11 +139,10 @@ module _ (told : Told) {N L C G : Type 0} (jobs : JobsTold N L C G) {D K J : Typ
   abbrev pub IsRunOf : Line → (before after : Lent D) → Status → Type 0
   IsRunOf (Load number) before after status = RanLoad told state number before after status
   IsRunOf (Trial shape) before after status = RanNew told state shape before after status
-  IsRunOf (Script shelf journal) before after status = OpensFor told jobs state (Script shelf journal) before after status
-  IsRunOf (Check shelf journal) before after status = OpensFor told jobs state (Check shelf journal) before after status
-  IsRunOf (Export shelf journal) before after status = OpensFor told jobs state (Export shelf journal) before after status
-  IsRunOf (Serve shelf journal address lines workers None) before after status = OpensFor told jobs state (Serve shelf journal address lines workers None) before after status
-  IsRunOf (Serve shelf journal address lines workers (Some name)) before after status = MirrorsFor (named shelf journal) (site_at address lines workers) before after status
+  IsRunOf (Script shelf journal) before after status = OpensFor told state (named shelf journal) before after (λ f o u. RanScript told state before after f.shelf o u.opening f.disk u.found.disk status) status
+  IsRunOf (Check shelf journal) before after status = OpensFor told state (named shelf journal) before after (λ f o u. RanCheck told state before after (opened_on f.disk u.found.disk f.shelf o) status) status
+  IsRunOf (Export shelf journal) before after status = OpensFor told state (named shelf journal) before after (λ f o u. RanExport told state before after (opened_on f.disk u.found.disk f.shelf o) status) status
+  IsRunOf (Serve x) before after status = ServesFor x.peer x before after status
   IsRunOf (Standby journal address) before after status = RanBy journal address before after status
 
   -- what the program did, by its words
@@ -162,7 +157,7 @@ abbrev pub after : (w : Worlds) → WorldLent w → Lent w.ground.Disk
 after w x = lent (asked_after w.ground x.0 x.3) (w.terminal.state x.1.exit.now) (w.clock.coming x.2.exit.now) (w.ground.spawner.state x.4.exit.now)
 
 abbrev pub told_in : (w : Worlds) → WorldLent w → Told
-told_in w x = let g = w.ground in told_by g.opener.told g.disk.told w.terminal.told w.clock.told g.peer.told g.listener.told g.link.told w.terminal.begun g.link.begun g.leaving.gone (g.opener.asked x.0.entry.now x.0.exit.now)
+told_in w x = let g = w.ground in told_by g.opener.told g.disk.told w.terminal.told w.clock.told g.peer.told g.listener.told g.link.told w.terminal.begun g.link.begun g.gone (g.opener.asked x.0.entry.now x.0.exit.now)
 
 -- what a line did with what it was lent
 abbrev pub RanLine : {T : Type 0} (g : WorldOf T) → Line → WorldLent g.world → Status → Type 0

@@ -1,5 +1,5 @@
 -- The serving of callers, and the program's jobs.
-use Rattle.std.specs.Prelude.{◌≡◌, ◌≢◌, ℕ, ◌+◌, ◌≤◌, ◌⊎◌, true, All, List, [], ◌++◌, length, map, Option, None, Vec}
+use Rattle.std.specs.Prelude.{◌≡◌, ◌≢◌, ℕ, ◌+◌, ◌≤◌, ◌⊎◌, true, All, List, ◌++◌, length, map, Vec}
 use Rattle.std.specs.declared.alloc.Global.{Global}
 use Rattle.dxc_causes.specs.Causes.{Rose}
 use Rattle.dxc_outside.specs.declared.gate.Gate.{Ghosts as GateOf}
@@ -17,8 +17,7 @@ use Rattle.xc_core.specs.States.{Opening}
 use Rattle.craft_session.specs.declared.timestamps.Timestamps.{Ghosts as ClockOf}
 use Rattle.craft_session.specs.Places.{HasPlaces}
 use Rattle.craft_session.specs.Seats.{PlaceAt}
-use Rattle.dxc_args.specs.declared.line.Line.{Line}
-use Rattle.dxc_args.specs.declared.line.Line.TheVariants.{Script, Trial, Check, Export, Serve, Standby, Load}
+use Rattle.dxc_args.specs.declared.line.ServeLine.{ServeLine}
 use Rattle.dxc_args.specs.declared.status.Status.{Status}
 use Rattle.dxc_args.specs.declared.status.Status.TheVariants.{Done, CannotOpen, NoThread, NoMemory}
 use Rattle.dxc_jobs.specs.declared.begun.RanAll.{RanAll}
@@ -34,17 +33,8 @@ use Rattle.dxc_jobs.specs.Starts.{IsLastFailed}
 use Rattle.dxc_element.specs.Openings.{Named, Sources, named}
 use Rattle.craft_server.specs.declared.sessions.SessionDone.{SessionDone}
 use Rattle.craft_server.specs.declared.sessions.SessionJob.{SessionJob}
+use Rattle.craft_server.specs.Entrances.{Ends, Entrance}
 use Rattle.craft_server.specs.Served.{RanAt}
-
--- a line of the mode serve, with 1 to 8 workers
-abbrev pub IsServe : Line → Type 0
-IsServe (Script shelf journal) = ⊥
-IsServe (Trial shape) = ⊥
-IsServe (Check shelf journal) = ⊥
-IsServe (Export shelf journal) = ⊥
-IsServe (Serve shelf journal address lines workers peer) = (1 ≤ workers) × (workers ≤ 8)
-IsServe (Standby journal address) = ⊥
-IsServe (Load number) = ⊥
 
 -- where sessions and frame workers run: the address, the name of the lines, and how many workers there are
 pub record SiteAt : Type 0 where
@@ -55,35 +45,12 @@ pub record SiteAt : Type 0 where
 abbrev pub site_at : (address lines : List ℕ) → ℕ → SiteAt
 site_at address lines workers = record { address = address; lines = lines; workers = workers }
 
--- the site that a line names
-abbrev pub site_in : Line → SiteAt
-site_in (Script shelf journal) = site_at [] [] 0
-site_in (Trial shape) = site_at [] [] 0
-site_in (Check shelf journal) = site_at [] [] 0
-site_in (Export shelf journal) = site_at [] [] 0
-site_in (Serve shelf journal address lines workers peer) = site_at address lines workers
-site_in (Standby journal address) = site_at [] [] 0
-site_in (Load number) = site_at [] [] 0
+-- the site that a line of `serve` names, and its shelf file and journal
+abbrev pub site_in : ServeLine → SiteAt
+site_in x = site_at x.address x.lines x.workers
 
--- the names of shelf file and journal that a line has
-abbrev pub named_in : Line → Named
-named_in (Script shelf journal) = named shelf journal
-named_in (Trial shape) = named [] []
-named_in (Check shelf journal) = named shelf journal
-named_in (Export shelf journal) = named shelf journal
-named_in (Serve shelf journal address lines workers peer) = named shelf journal
-named_in (Standby journal address) = named [] journal
-named_in (Load number) = named [] []
-
--- the peer that a line has
-abbrev pub peer_of : Line → Option (List ℕ)
-peer_of (Script shelf journal) = None
-peer_of (Trial shape) = None
-peer_of (Check shelf journal) = None
-peer_of (Export shelf journal) = None
-peer_of (Serve shelf journal address lines workers peer) = peer
-peer_of (Standby journal address) = None
-peer_of (Load number) = None
+abbrev pub names_in : ServeLine → Named
+names_in x = named x.shelf x.journal
 
 -- what became of so many jobs of an opened controller, by the counts of the opener's faults and of the spawner
 pub record IsServing (jobs faults later : ℕ) (old new : SpawnerState) (status : Status) : Type 0 where
@@ -92,11 +59,22 @@ pub record IsServing (jobs faults later : ℕ) (old new : SpawnerState) (status 
   pub no_more : new.starts ≤ old.starts + jobs
   -- and those that were have ended
   pub waited : (status ≡ Done) ⊎ (status ≡ NoThread) → new.waited ≡ true
-  -- no job was started behind the one whose start failed
+  -- no job was started after the one whose start failed
   pub no_thread : status ≡ NoThread → IsLastFailed jobs old new
   pub cannot_open : status ≡ CannotOpen → Rose faults later
   pub not_started : (status ≡ CannotOpen) ⊎ (status ≡ NoMemory) → new ≡ old
   pub only : status ≢ Done → status ≢ NoThread → status ≢ CannotOpen → status ≡ NoMemory
+
+-- the opener's count of faults, and the spawner
+pub record Tally : Type 0 where
+  pub faults : ℕ
+  pub spawner : SpawnerState
+
+abbrev pub tally : ℕ → SpawnerState → Tally
+tally faults spawner = record { faults = faults; spawner = spawner }
+
+abbrev pub IsServingBy : (jobs : ℕ) → (old new : Tally) → Status → Type 0
+IsServingBy jobs old new status = IsServing jobs old.faults new.faults old.spawner new.spawner status
 
 -- What tells of jobs: for which worker lines were handed out, and at which address a listener, and which jobs the spawner was handed; what a worker's frames
 -- came to, and the sessions of a place; and what was let go.
@@ -117,6 +95,9 @@ jobs_told disk_told o n l k c g gone handed = record {
   served = λ D U. RanAt {D = D} {U = U} disk_told l k c g;
   gone = gone;
 }
+
+abbrev pub jobs_by : (disk_told : Type 0) {O D N L C G E K : Type 0} → OpenerOf O D N L C G E K → LinesOf N → Entrance L K C G → Ends → JobsTold N L C G
+jobs_by disk_told o n e x = jobs_told disk_told o n e.listener e.link e.clock e.gate x.gone x.handed
 
 -- What these jobs left, which was let go: each has run, and left this.
 pub record AreLeft {J K E F : Type 0} (gone : AnyValue → Type 0) (carried : J → E → Type 0) (served : K → F → Type 0) (workers : List J) (sessions : List K) : Type 0 where
@@ -139,7 +120,7 @@ pub record LeftPlaces (gone : AnyValue → Type 0) (s : Contents) (o : Opening) 
   pub are : HasPlaces s o p 16 places.items
 
 module _ (D U : Type 0) {N L C G : Type 0} (told : JobsTold N L C G) (site : SiteAt) where
-  -- The jobs of the site: one for each worker of the opening's fabric, with its seat of it and lines that were handed out for it; behind these one for
+  -- The jobs of the site: one for each worker of the opening's fabric, with its seat of it and lines that were handed out for it; after these one for
   -- each of 16 places of one turnstile, at the opening's state, and of one at its users, with a listener that was handed out at the address; and no other. The
   -- spawner was handed so much of them, and they left this.
   pub record SiteJobs (spawned : List AnyJob → Type 0) (leaving : List (FrameJob N G) → List (SessionJob D U L C G) → Type 0) (s : Contents) (o : Opening) (p : UsersOpening) : Type 0 where

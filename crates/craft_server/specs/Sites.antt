@@ -1,5 +1,15 @@
 -- Sites that are served, by all that serves them.
-use Rattle.std.specs.Prelude.{◌≡◌}
+use Rattle.std.specs.Prelude.{◌≡◌, ℕ, length}
+use Rattle.std.specs.Arc.{arc_value}
+use Rattle.dxc_disk.specs.Disks.{DiskState}
+use Rattle.dxc_leaving.specs.Values.{AnyValue}
+use Rattle.fabric_words.specs.New.{AreNew}
+use Rattle.user_admin.specs.Openings.{Begins as UsersBegin}
+use Rattle.user_admin.specs.States.{opening_of as users_opening}
+use Rattle.xc_core.specs.Openings.{Begins}
+use Rattle.xc_core.specs.States.{opening_of}
+use Rattle.craft_session.specs.Places.{IsAtOpening}
+use Rattle.dxc_element.specs.declared.opening.Element.{Element}
 use Rattle.standby_link.specs.declared.mirror_disk.MirrorDisk.{MirrorDisk}
 use Rattle.dxc_args.specs.declared.status.Status.{Status}
 use Rattle.dxc_element.specs.declared.opening.Names.{Names}
@@ -8,7 +18,7 @@ use Rattle.dxc_element.specs.Peers.{Mirrors}
 use Rattle.dxc_jobs.specs.Offices.{Across}
 use Rattle.craft_server.specs.declared.serve.Site.{Site}
 use Rattle.craft_server.specs.declared.world.Ground.{Ghosts as GroundOf}
-use Rattle.craft_server.specs.Serving.{JobsTold, ServedSite, SiteAt, jobs_told, site_at}
+use Rattle.craft_server.specs.Serving.{CameTo, JobsTold, LeftPlaces, ServedSite, SiteAt, jobs_told, site_at}
 use Rattle.craft_server.specs.Worlds.{GroundLent, Grounds}
 
 -- the names and the site that a call is passed
@@ -17,6 +27,22 @@ names_of n = named n.shelf.now n.journal.now
 
 abbrev pub site_of : Site → SiteAt
 site_of s = site_at s.address.now s.lines.now s.workers
+
+-- an element that was opened for so many workers, with a seat for each, as jobs begin on it
+pub record IsReady {D : Type 0} (disk_told : Type 0) (state : D → DiskState) (workers : ℕ) (x : Element D D) : Type 0 where
+  pub seats : AreNew (arc_value x.controller.fabric) 0 x.controller.seats.items
+  pub each : length x.controller.seats.items ≡ workers
+  pub sized : (arc_value x.controller.fabric).size ≡ record { shape = (arc_value x.controller.shelf).shape; workers = workers }
+  pub begins : Begins disk_told state x.controller.state
+  pub users_begin : UsersBegin disk_told state x.users
+  pub opening : IsAtOpening (opening_of state x.controller.state) (arc_value x.controller.shelf) (arc_value x.controller.fabric)
+
+-- what came of its jobs, by the status; or that its places were let go
+abbrev pub CameToOn : {D N L C G : Type 0} (state : D → DiskState) → JobsTold N L C G → SiteAt → Element D D → Status → Type 0
+CameToOn {D} state jobs site x status = CameTo D D jobs site status (arc_value x.controller.shelf) (opening_of state x.controller.state) (users_opening state x.users)
+
+abbrev pub LeftPlacesOf : {D : Type 0} (state : D → DiskState) (gone : AnyValue → Type 0) → Element D D → Type 0
+LeftPlacesOf state gone x = LeftPlaces gone (arc_value x.controller.shelf) (opening_of state x.controller.state) (users_opening state x.users)
 
 -- what is asked, at the call and at the return
 abbrev pub asked_before : (w : Grounds) → Across w.O → Across w.G → Sources w.Disk
@@ -27,7 +53,7 @@ asked_after w o g = sources (w.opener.state o.exit.now) (w.opener.journal_at o.e
 
 -- what tells of jobs, across the call
 abbrev pub jobs_across : (w : Grounds) → Across w.P → JobsTold w.Lines w.Listener w.Clock w.Gate
-jobs_across w p = jobs_told w.disk.told w.opener w.lines w.listener w.link w.session_clock w.session_gate w.leaving.gone (w.spawner.handed p.entry.now p.exit.now)
+jobs_across w p = jobs_told w.disk.told w.opener w.lines w.listener w.link w.session_clock w.session_gate w.gone (w.spawner.handed p.entry.now p.exit.now)
 
 -- the site was served with what was opened on the names, or why nothing was opened
 abbrev pub ServedAlone : {T : Type 0} (g : GroundOf T) → Named → SiteAt → GroundLent g.ground → Status → Type 0
@@ -37,7 +63,7 @@ ServedAlone g names site x status =
     let after = asked_after w x.0 x.1 in
     let old = w.spawner.state x.2.entry.now in
     let new = w.spawner.state x.2.exit.now in
-    Opens w.opener.told w.disk.told w.disk.state w.leaving.gone names before after (new ≡ old) (λ f o u. ServedSite w.Disk w.Disk (jobs_across w x.2) site before after old new f.shelf o u.opening status) status
+    Opens w.opener.told w.disk.told w.disk.state w.gone names before after (new ≡ old) (λ f o u. ServedSite w.Disk w.Disk (jobs_across w x.2) site before after old new f.shelf o u.opening status) status
 
 -- or with what was opened on them and mirrored
 abbrev pub ServedMirrored : {T : Type 0} (g : GroundOf T) → Named → SiteAt → GroundLent g.ground → Status → Type 0
@@ -47,4 +73,4 @@ ServedMirrored g names site x status =
     let after = asked_after w x.0 x.1 in
     let old = w.spawner.state x.2.entry.now in
     let new = w.spawner.state x.2.exit.now in
-    Mirrors w.disk.told w.peer.told w.disk.state w.peer.state w.opener.told w.leaving.gone names before after (new ≡ old) (λ f o u. ServedSite (MirrorDisk w.Disk w.Peer) (MirrorDisk w.Disk w.Peer) (jobs_across w x.2) site before after old new f.shelf o u.opening status) status
+    Mirrors w.disk.told w.peer.told w.disk.state w.peer.state w.opener.told w.gone names before after (new ≡ old) (λ f o u. ServedSite (MirrorDisk w.Disk w.Peer) (MirrorDisk w.Disk w.Peer) (jobs_across w x.2) site before after old new f.shelf o u.opening status) status

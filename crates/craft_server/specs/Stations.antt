@@ -1,7 +1,5 @@
 -- What `script` does with what it is lent.
-use Rattle.std.specs.Prelude.{◌≡◌, ◌⊎◌, ℕ, List}
-use Rattle.dxc_outside.specs.declared.clock.Moment.{Moment}
-use Rattle.dxc_outside.specs.Links.{LinkState}
+use Rattle.std.specs.Prelude.{◌≡◌, ◌⊎◌}
 use Rattle.dxc_model.specs.declared.user.SessionUser.TheVariants.{Nobody}
 use Rattle.dxc_args.specs.declared.status.Status.{Status}
 use Rattle.dxc_element.specs.Openings.{Named, Opens, Sources, sources}
@@ -27,4 +25,4 @@ OpensForScript g names x status =
     let d = w.clock.coming x.2.exit.now in
     let stops = w.gate.stops x.3.entry.now in
     let later = w.gate.stops x.3.exit.now in
-    Opens w.opener.told w.disk.told w.disk.state w.leaving.gone names (shown_before w x) (shown_after w x) ((l ≡ k) × (d ≡ c)) (λ f o u. RanAndLeft w.disk.told w.terminal.told w.clock.told w.terminal.begun w.leaving.gone (w.disk.state f.disk) (w.disk.state u.found.disk) Nobody f.shelf o u.opening k l c d stops later status ⊎ IsUnplaced k l c d stops later status) status
+    Opens w.opener.told w.disk.told w.disk.state w.gone names (shown_before w x) (shown_after w x) ((l ≡ k) × (d ≡ c)) (λ f o u. RanAndLeft w.disk.told w.terminal.told w.clock.told w.terminal.begun w.gone (w.disk.state f.disk) (w.disk.state u.found.disk) Nobody f.shelf o u.opening k l c d stops later status ⊎ IsUnplaced k l c d stops later status) status

@@ -1,6 +1,6 @@
 -- What a trial did: one session of the user of a new element, alone on new journals in memory.
-use Rattle.std.specs.Prelude.{◌≡◌, ◌⊎◌, ℕ, List, []}
-use Rattle.dxc_disk.specs.declared.mem_disk.MemDisk.{MemDisk}
+use Rattle.std.specs.Prelude.{◌≡◌, ◌⊎◌, ℕ, List, [], Result, MatchResult}
+use Rattle.std.specs.Arc.{arc_value}
 use Rattle.dxc_disk.specs.Disks.{DiskState}
 use Rattle.dxc_disk.specs.MemView.{mem_state}
 use Rattle.dxc_model.specs.Equipment.{empty_table}
@@ -47,6 +47,13 @@ pub record IsTrialElement (told : Type 0) {D : Type 0} (state : D → DiskState)
   pub is_shelf : IsTrialShelf shape shelf
   pub is_new : IsNewElement told told state state shelf x
 
+-- of the shape that its shelf has
+abbrev pub shape_in : {D : Type 0} → Element D D → Dimensions
+shape_in x = (arc_value x.controller.shelf).shape
+
+abbrev pub IsTried : {D : Type 0} (told : Type 0) (state : D → DiskState) → Element D D → Type 0
+IsTried told state x = IsTrialElement told state (shape_in x) x
+
 -- One session was served on a new element of the shape, from the empty table on. Its user is the element's one, of class S, who was logged in where it
 -- began.
 pub record RanTrial (told : TrialTold) (shape : Dimensions) (before after : TrialLent) (status : Status) : Type 0 where
@@ -77,6 +84,10 @@ IsTrialOn told shape before after status = NoTrial before after status ⊎ RanTr
 -- it ended with this status, and nothing was done
 abbrev pub IsUntried : (before after : TrialLent) → (status cause : Status) → Type 0
 IsUntried before after status cause = (after ≡ before) × (status ≡ cause)
+
+-- by an element, or why there is none
+abbrev pub TriesOn : (told : TrialTold) → Result (Element told.D told.D) Status → (before after : TrialLent) → Status → Type 0
+TriesOn told opened before after status = MatchResult opened (λ x. IsTrialOn told (shape_in x) before after status) (IsUntried before after status)
 
 -- on journals in memory
 abbrev pub memory_told : (terminal clock : Type 0) → (LinkState → Type 0) → TrialTold

@@ -8,8 +8,10 @@ use Rattle.dxc_outside.specs.declared.link.Link.{Ghosts as LinkOf}
 use Rattle.dxc_outside.specs.declared.listener.Listener.{Ghosts as ListenerOf}
 use Rattle.dxc_outside.specs.declared.opener.Opener.{Ghosts as OpenerOf}
 use Rattle.dxc_outside.specs.declared.spawner.Spawner.{Ghosts as SpawnerOf}
-use Rattle.dxc_leaving.specs.declared.LetGo.{Ghosts as LetGoOf}
+use Rattle.dxc_leaving.specs.Values.{AnyValue}
 use Rattle.dxc_jobs.specs.Offices.{Across}
+use Rattle.dxc_element.specs.Lenders.{Lender}
+use Rattle.craft_server.specs.Entrances.{Entrance}
 
 -- the ghost members of an opener and of what it hands out, and of a gate and a spawner
 pub record Grounds : Type 1 where
@@ -25,7 +27,7 @@ pub record Grounds : Type 1 where
   pub Link : Type 0
   pub Threads : Type 0
   pub opener : OpenerOf O Disk Lines Listener Clock Gate Peer Link
-  pub leaving : LetGoOf O
+  pub gone : AnyValue → Type 0
   pub disk : DiskOf Disk
   pub lines : LinesOf Lines
   pub listener : ListenerOf Listener Link
@@ -36,28 +38,28 @@ pub record Grounds : Type 1 where
   pub gate : GateOf G
   pub spawner : SpawnerOf P Threads
 
-abbrev pub grounds : {O G P Disk Lines Listener Clock Gate Peer Link Threads : Type 0} → OpenerOf O Disk Lines Listener Clock Gate Peer Link → LetGoOf O → DiskOf Disk → LinesOf Lines → ListenerOf Listener Link → LinkOf Link → TimestampsOf Clock → GateOf Gate → LinkOf Peer → GateOf G → SpawnerOf P Threads → Grounds
-grounds {O} {G} {P} {Disk} {Lines} {Listener} {Clock} {Gate} {Peer} {Link} {Threads} o x d n l k c h e g p = record {
+abbrev pub grounds : {O G P Threads : Type 0} (l : Lender O) → LinesOf l.Lines → Entrance l.Listener l.Link l.Clock l.Gate → GateOf G → SpawnerOf P Threads → Grounds
+grounds {O} {G} {P} {Threads} l n e g p = record {
   O = O;
   G = G;
   P = P;
-  Disk = Disk;
-  Lines = Lines;
-  Listener = Listener;
-  Clock = Clock;
-  Gate = Gate;
-  Peer = Peer;
-  Link = Link;
+  Disk = l.Disk;
+  Lines = l.Lines;
+  Listener = l.Listener;
+  Clock = l.Clock;
+  Gate = l.Gate;
+  Peer = l.Peer;
+  Link = l.Link;
   Threads = Threads;
-  opener = o;
-  leaving = x;
-  disk = d;
+  opener = l.opener;
+  gone = l.gone;
+  disk = l.disk;
   lines = n;
-  listener = l;
-  link = k;
-  session_clock = c;
-  session_gate = h;
-  peer = e;
+  listener = e.listener;
+  link = e.link;
+  session_clock = e.clock;
+  session_gate = e.gate;
+  peer = l.peer;
   gate = g;
   spawner = p;
 }
@@ -95,28 +97,28 @@ pub record Stations : Type 1 where
   pub Peer : Type 0
   pub Link : Type 0
   pub opener : OpenerOf O Disk Lines Listener Clock Gate Peer Link
-  pub leaving : LetGoOf O
+  pub gone : AnyValue → Type 0
   pub disk : DiskOf Disk
   pub terminal : LinkOf K
   pub clock : ClockOf C
   pub gate : GateOf G
 
-abbrev pub stations : {O K C G Disk Lines Listener Clock Gate Peer Link : Type 0} → OpenerOf O Disk Lines Listener Clock Gate Peer Link → LetGoOf O → DiskOf Disk → LinkOf K → ClockOf C → GateOf G → Stations
-stations {O} {K} {C} {G} {Disk} {Lines} {Listener} {Clock} {Gate} {Peer} {Link} o x d k c g = record {
+abbrev pub stations : {O K C G : Type 0} (l : Lender O) → LinkOf K → ClockOf C → GateOf G → Stations
+stations {O} {K} {C} {G} l k c g = record {
   O = O;
   K = K;
   C = C;
   G = G;
-  Disk = Disk;
-  Lines = Lines;
-  Listener = Listener;
-  Clock = Clock;
-  Gate = Gate;
-  Peer = Peer;
-  Link = Link;
-  opener = o;
-  leaving = x;
-  disk = d;
+  Disk = l.Disk;
+  Lines = l.Lines;
+  Listener = l.Listener;
+  Clock = l.Clock;
+  Gate = l.Gate;
+  Peer = l.Peer;
+  Link = l.Link;
+  opener = l.opener;
+  gone = l.gone;
+  disk = l.disk;
   terminal = k;
   clock = c;
   gate = g;

@@ -4,7 +4,6 @@
 mod jobs;
 mod links;
 mod load;
-mod mirrored;
 mod run;
 mod script;
 mod serve;

@@ -9,7 +9,7 @@ ghost use Rattle.dxc_load.specs.Sending.{link_state, unread};
 ghost use Rattle.xc_core.specs.Seeing.{Saw};
 ghost use Rattle.dxc_element.specs.Loads.{IsLoadElement, NotLoaded};
 ghost use Rattle.dxc_element.specs.Stocks.{IsLeft};
-ghost use Rattle.craft_server.specs.Loads.{IsLoad, IsLoaded, IsLoadedOn, IsLoadServed, IsSummed, LoadsOn};
+ghost use Rattle.craft_server.specs.Loads.{IsLoad, IsLoaded, IsLoadServed, IsSummed, LoadsOn, load_lent, load_told};
 
 use arrayvec::ArrayVec;
 use craft_session::places::lone_place;
@@ -18,26 +18,20 @@ use dxc_args::Status;
 use dxc_causes::NoMemory;
 use dxc_disk::Disk;
 use dxc_element::{Controller, Element, Stock, load_element, stock_of};
-use dxc_load::{LoadClock, LoadLink, Noting, Summary, codes_in};
+use dxc_load::{LoadClock, LoadLink, Noting, PORTS, Summary, codes_in};
 use dxc_model::Conn;
 use dxc_outside::{Gate, Link, write_all};
 use fabric_words::{Fabric, WorkerSeat};
 use std::alloc::Global;
 use std::sync::{Arc, Wait};
 
-/// How many bytes of responses are kept.
-const WRITTEN_ROOM: usize = 1 << 21;
-
-/// How many connections there can be: one at each port of 8 modules of 24 slots.
-const CONNECTIONS: usize = 192;
-
 // Room for all connections, and for what is written to the link.
 fn rooms(alloc: Global) -> Result<(Vec<Conn>, Vec<u8>), NoMemory>
     ensures rows { IfOk result (λ r. ports shape_of_load ≤ vec_capacity r.0) }
     ensures written { IfOk result (λ r. (r.1.items ≡ []) × (2 ^ 21 ≤ vec_capacity r.1)) }
 {
-    let rows = Vec::with_capacity(alloc, CONNECTIONS)?;
-    let written = Vec::with_capacity(alloc, WRITTEN_ROOM)?;
+    let rows = Vec::with_capacity(alloc, PORTS)?;
+    let written = Vec::with_capacity(alloc, LoadLink::ROOM)?;
     Ok((rows, written))
 }
 
@@ -71,10 +65,7 @@ fn serve_load<D: Disk + Drop, U: Disk + Drop, G: Gate, R: Wait>(
     ensures unstopped { MatchResult result (λ _. G.stops gate.new ≡ G.stops gate.old)
         (λ _. G.stops gate.old ≤ G.stops gate.new) }
 {
-    let end = serve_session(place, link, &mut LoadClock, gate, rt);
-    // Its clause tells that not all reads were made before the script's end.
-    let _reads = link.reads();
-    match end {
+    match serve_session(place, link, &mut LoadClock, gate, rt) {
         SessionEnd::End => Ok(()),
         // There was no room for what it wrote.
         SessionEnd::WriteFault => Err(Status::NoMemory),
@@ -136,40 +127,8 @@ fn summed<D: Noting + Drop, U: Disk + Drop, G: Gate, R: Wait>(
     })
 }
 
-// Serves the script of that number on the element, and sums it up.
+// Serves the script of that number on an element that was opened, and sums it up.
 fn load_on<D: Noting + Drop, U: Disk + Drop, G: Gate, R: Wait>(
-    alloc: Global,
-    number: u64,
-    element: Element<D, U>,
-    rows: &mut Vec<Conn>,
-    written: Vec<u8>,
-    gate: &mut G,
-    rt: &R,
-) -> Result<Summary, Status>
-    requires element { IsLoadElement D.told U.told D.state U.state element }
-    requires rows { ports shape_of_load ≤ vec_capacity rows.old }
-    requires written { (written.items ≡ []) × (2 ^ 21 ≤ vec_capacity written) }
-    ensures loaded { MatchResult result (IsLoadedOn D.told U.told D.state U.state number)
-        (NotLoaded (G.stops gate.old) (G.stops gate.new)) }
-    ensures unstopped { MatchResult result (λ _. G.stops gate.new ≡ G.stops gate.old)
-        (λ _. G.stops gate.old ≤ G.stops gate.new) }
-{
-    let Element { controller, users } = element;
-    let Controller {
-        shelf,
-        fabric,
-        seats,
-        state,
-    } = controller;
-    let Ok(place) = lone_place(alloc, &shelf, &fabric, state, users) else {
-        return Err(Status::NoMemory);
-    };
-    let mut link = load_link(number, fabric, seats, written);
-    summed(place, &mut link, rows, gate, rt)
-}
-
-// The same where the element was opened. Generic over its disks, since whoever owns a disk in memory pays for each of its parts.
-fn load_opened<D: Noting + Drop, U: Disk + Drop, G: Gate, R: Wait>(
     alloc: Global,
     number: u64,
     opened: Result<Element<D, U>, Status>,
@@ -181,13 +140,24 @@ fn load_opened<D: Noting + Drop, U: Disk + Drop, G: Gate, R: Wait>(
     requires element { IfOk opened (IsLoadElement D.told U.told D.state U.state) }
     requires rows { ports shape_of_load ≤ vec_capacity rows.old }
     requires written { (written.items ≡ []) × (2 ^ 21 ≤ vec_capacity written) }
-    ensures { LoadsOn D.told U.told D.state U.state number opened (G.stops gate.old)
+    ensures { LoadsOn (load_told D.Disk U.Disk number) opened (G.stops gate.old)
         (G.stops gate.new) result }
 {
-    match opened {
-        Ok(element) => load_on(alloc, number, element, rows, written, gate, rt),
-        Err(status) => Err(status),
-    }
+    let Element { controller, users } = match opened {
+        Ok(element) => element,
+        Err(status) => return Err(status),
+    };
+    let Controller {
+        shelf,
+        fabric,
+        seats,
+        state,
+    } = controller;
+    let Ok(place) = lone_place(alloc, &shelf, &fabric, state, users) else {
+        return Err(Status::NoMemory);
+    };
+    let mut link = load_link(number, fabric, seats, written);
+    summed(place, &mut link, rows, gate, rt)
 }
 
 // The same on journals in memory.
@@ -206,7 +176,7 @@ fn loaded<G: Gate, R: Wait>(
         return Err(Status::NoMemory);
     };
     let opened = load_element(alloc, gate);
-    load_opened(alloc, number, opened, &mut rows, written, gate, rt)
+    load_on(alloc, number, opened, &mut rows, written, gate, rt)
 }
 
 /// Runs the load script of that number, and writes its summary to the terminal.
@@ -217,8 +187,8 @@ pub(crate) fn run_load<K: Link, G: Gate, R: Wait>(
     gate: &mut G,
     rt: &R,
 ) -> Status
-    ensures load { IsLoad number K.told (K.state terminal.old) (K.state terminal.new)
-        (G.stops gate.old) (G.stops gate.new) result }
+    ensures load { IsLoad number K.told (load_lent (K.state terminal.old) (G.stops gate.old))
+        (load_lent (K.state terminal.new) (G.stops gate.new)) result }
     ensures hung_up { K.hung_up terminal.new ≡ K.hung_up terminal.old }
 {
     let summary = match loaded(alloc, number, gate, rt) {

@@ -1,5 +1,5 @@
 ghost use Rattle.std.specs.Prelude.{◌≡◌, ◌≢◌};
-ghost use Rattle.dxc_args.specs.Lines.{IsInRange, IsLine};
+ghost use Rattle.dxc_args.specs.Lines.{IsLine};
 ghost use Rattle.dxc_args.specs.declared.line.Line.{Line as ALine};
 ghost use Rattle.dxc_outside.specs.Asked.{AskedFor};
 ghost use Rattle.dxc_jobs.specs.Missing.{IsOfNoOpening};
@@ -9,7 +9,7 @@ ghost use Rattle.craft_server.specs.Runs.{RanLine, RanWords};
 
 use crate::load::run_load;
 use crate::script::run_script;
-use crate::serve::serve_line;
+use crate::serve::serve_all;
 use crate::trial::run_trial;
 use crate::world::World;
 use craft_session::Timestamps;
@@ -32,7 +32,7 @@ use std::sync::Wait;
 /// serves 16 callers of the address at a time, and carries the frames of the lines with 1 to 8 workers. With one word more, PEER, it first
 /// joins the standby there, which gets a copy of the journal and of each change; where that is lost it goes on alone. `standby` waits for one
 /// primary at the address, and makes on the journal, which is to be new, what it sends, to the end of the link. `load` serves one session
-/// that is sent the load script of the number, with a frame behind each command, and writes one line that sums it up. The gate is asked
+/// that is sent the load script of the number, with a frame after each command, and writes one line that sums it up. The gate is asked
 /// while the controller starts and, in `script` and `load`, before a change is journalled, before each register write and before the table takes a change.
 pub fn dxc_run<O: Opener + LetGo, K: Link, C: Clock, G: Gate, P: Spawner, R: Wait>(
     alloc: Global,
@@ -62,7 +62,7 @@ where
     }
 }
 
-// Runs a line that `dxc_run` holds: with nothing to drop here, the modes cost the proof a fifth.
+// Runs the mode that a line asks for.
 fn run_line<O: Opener + LetGo, K: Link, C: Clock, G: Gate, P: Spawner, R: Wait>(
     alloc: Global,
     line: &Line,
@@ -78,11 +78,11 @@ where
     O::Listener: Noted,
     <O::Listener as Listener>::Link: Send + 'static,
     <O::Listener as Noted>::Notes: Send + 'static,
-    ensures words { IsInRange line.now → result ≢ Status.BadWords }
-    ensures run { IsInRange line.now → RanLine ⟦<(O, K, C, G, P) as World>⟧ line.now
+    ensures words { result ≢ Status.BadWords }
+    ensures run { RanLine ⟦<(O, K, C, G, P) as World>⟧ line.now
         (opener, terminal, clock, gate, spawner) result }
-    ensures asked { IsInRange line.now
-        → AskedFor (O.asked opener.old opener.new) (line_asked line.now) (IsOfNoOpening result) }
+    ensures asked { AskedFor (O.asked opener.old opener.new) (line_asked line.now)
+        (IsOfNoOpening result) }
     ensures hung_up { K.hung_up terminal.new ≡ K.hung_up terminal.old }
 {
     match line {
@@ -99,7 +99,7 @@ where
             let names = names_of(shelf, journal);
             run_export(alloc, opener, names, terminal, gate)
         }
-        Line::Serve { .. } => serve_line(alloc, opener, line, gate, spawner, rt),
+        Line::Serve(line) => serve_all(alloc, opener, line, gate, spawner, rt),
         Line::Standby { journal, address } => {
             run_standby(alloc, opener, journal.text(), address.text(), rt)
         }

@@ -1,6 +1,6 @@
 //! A trial: one session of the user of a new element, whose journals are in memory.
-ghost use Rattle.std.specs.Prelude.{◌≡◌, IfOk, MatchResult};
-ghost use Rattle.craft_server.specs.Trials.{IsTrialElement, IsTrialOn, IsUntried, memory_told, trial_lent, trial_told};
+ghost use Rattle.std.specs.Prelude.{◌≡◌, IfOk};
+ghost use Rattle.craft_server.specs.Trials.{IsTrialOn, IsTried, TriesOn, memory_told, trial_lent, trial_told};
 
 use crate::script::after_session;
 use craft_session::places::lone_place;
@@ -14,24 +14,25 @@ use shelf_file::trial_shelf;
 use std::alloc::Global;
 use std::sync::Wait;
 
-// Serves one session over the terminal, at the one place of the element, whose user is logged in from the beginning. Clauses tell of which shape it is.
+// Serves one session over the terminal, at the one place of an element that was opened, whose user is logged in from the beginning.
 fn trial_on<D: Disk + Drop, K: Link, C: Clock, G: Gate, R: Wait>(
     alloc: Global,
-    shape: Shape,
-    element: Element<D, D>,
+    opened: Result<Element<D, D>, Status>,
     terminal: &mut K,
     clock: &mut C,
     gate: &mut G,
     rt: &R,
 ) -> Status
-    requires element { IsTrialElement D.told D.state shape element }
-    ensures ran { IsTrialOn (trial_told D.told D.state K.told C.told K.begun) shape
+    requires element { IfOk opened (IsTried D.told D.state) }
+    ensures ran { TriesOn (trial_told D.told D.state K.told C.told K.begun) opened
         (trial_lent (K.state terminal.old) (C.coming clock.old) (G.stops gate.old))
         (trial_lent (K.state terminal.new) (C.coming clock.new) (G.stops gate.new)) result }
     ensures hung_up { K.hung_up terminal.new ≡ K.hung_up terminal.old }
 {
-    let _ = shape;
-    let Element { controller, users } = element;
+    let Element { controller, users } = match opened {
+        Ok(element) => element,
+        Err(status) => return status,
+    };
     let Controller {
         shelf,
         fabric,
@@ -43,31 +44,6 @@ fn trial_on<D: Disk + Drop, K: Link, C: Clock, G: Gate, R: Wait>(
         return Status::NoMemory;
     };
     after_session(serve_session_of(&mut place, user, terminal, clock, gate, rt))
-}
-
-// The same where the element was opened. Generic over its disks, since whoever owns a disk in memory pays for each of its parts.
-fn trial_opened<D: Disk + Drop, K: Link, C: Clock, G: Gate, R: Wait>(
-    alloc: Global,
-    shape: Shape,
-    opened: Result<Element<D, D>, Status>,
-    terminal: &mut K,
-    clock: &mut C,
-    gate: &mut G,
-    rt: &R,
-) -> Status
-    requires element { IfOk opened (IsTrialElement D.told D.state shape) }
-    ensures ran { MatchResult opened
-        (λ _. IsTrialOn (trial_told D.told D.state K.told C.told K.begun) shape
-        (trial_lent (K.state terminal.old) (C.coming clock.old) (G.stops gate.old))
-        (trial_lent (K.state terminal.new) (C.coming clock.new) (G.stops gate.new)) result)
-        (IsUntried (trial_lent (K.state terminal.old) (C.coming clock.old) (G.stops gate.old))
-        (trial_lent (K.state terminal.new) (C.coming clock.new) (G.stops gate.new)) result) }
-    ensures hung_up { K.hung_up terminal.new ≡ K.hung_up terminal.old }
-{
-    match opened {
-        Ok(element) => trial_on(alloc, shape, element, terminal, clock, gate, rt),
-        Err(status) => status,
-    }
 }
 
 /// Serves one session over the terminal, on a new element of the shape, whose one user is logged in from the beginning.
@@ -88,5 +64,5 @@ pub(crate) fn run_trial<K: Link, C: Clock, G: Gate, R: Wait>(
         return Status::NoMemory;
     };
     let opened = memory_element(alloc, shelf, gate);
-    trial_opened(alloc, shape, opened, terminal, clock, gate, rt)
+    trial_on(alloc, opened, terminal, clock, gate, rt)
 }

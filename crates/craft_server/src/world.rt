@@ -15,10 +15,13 @@ impl<O: Opener + LetGo, G: Gate, P: Spawner> Ground for (O, G, P)
 where
     O::Clock: Timestamps,
 {
+    ghost use Rattle.dxc_element.specs.Lenders.{lender};
+    ghost use Rattle.craft_server.specs.Entrances.{entrance};
     ghost use Rattle.craft_server.specs.Worlds.{grounds};
 
-    ghost ground = { grounds O.Opener O.LetGo O.Journal.Disk O.Lines.Lines O.Listener.Listener
-        O.Listener.Link.Link O.Clock.Timestamps O.Gate.Gate O.Peer.Link G.Gate P.Spawner };
+    ghost ground = { grounds (lender O.Opener O.Journal.Disk O.Peer.Link O.gone) O.Lines.Lines
+        (entrance O.Listener.Listener O.Listener.Link.Link O.Clock.Timestamps O.Gate.Gate)
+        G.Gate P.Spawner };
 }
 
 /// Likewise of these, and of a terminal and a clock.
@@ -32,12 +35,14 @@ impl<O: Opener + LetGo, K: Link, C: Clock, G: Gate, P: Spawner> World for (O, K,
 where
     O::Clock: Timestamps,
 {
+    ghost use Rattle.dxc_element.specs.Lenders.{lender};
+    ghost use Rattle.craft_server.specs.Entrances.{entrance};
     ghost use Rattle.craft_server.specs.Worlds.{grounds, worlds};
 
     ghost world = { worlds
-        (grounds O.Opener O.LetGo O.Journal.Disk O.Lines.Lines O.Listener.Listener
-        O.Listener.Link.Link O.Clock.Timestamps O.Gate.Gate O.Peer.Link G.Gate P.Spawner) K.Link
-        C.Clock };
+        (grounds (lender O.Opener O.Journal.Disk O.Peer.Link O.gone) O.Lines.Lines
+        (entrance O.Listener.Listener O.Listener.Link.Link O.Clock.Timestamps O.Gate.Gate)
+        G.Gate P.Spawner) K.Link C.Clock };
 }
 
 /// Likewise of what `script` is lent: an opener, a terminal, a clock and a gate.
@@ -48,7 +53,9 @@ pub trait Station {
 }
 
 impl<O: Opener + LetGo, K: Link, C: Clock, G: Gate> Station for (O, K, C, G) {
+    ghost use Rattle.dxc_element.specs.Lenders.{lender};
     ghost use Rattle.craft_server.specs.Worlds.{stations};
 
-    ghost station = { stations O.Opener O.LetGo O.Journal.Disk K.Link C.Clock G.Gate };
+    ghost station = { stations (lender O.Opener O.Journal.Disk O.Peer.Link O.gone) K.Link
+        C.Clock G.Gate };
 }

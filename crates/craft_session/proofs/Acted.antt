@@ -1,6 +1,8 @@
 -- What was asked was done: the entries of it.
-use Rattle.std.proofs.Common.{◌≡◌, ℕ, length, List, [], ◌∷◌, ◌++◌, append-nil, append_assoc, Some, inl, inr, refl, sym, ◌∙◌, ap, ap₂, subst}
+use Rattle.std.proofs.Common.{◌≡◌, ℕ, length, List, [], ◌∷◌, ◌++◌, append-nil, append_assoc, Some, Result, Ok, Err, inl, inr, refl, sym, ◌∙◌, ap, ap₂, subst}
 use base.Stored.{Gv}
+use Rattle.dxc_outside.specs.declared.stopped.Stopped.{Stopped}
+use Rattle.dxc_outside.specs.Stops.{the_stop}
 use Rattle.dxc_model.specs.declared.cause.Cause.{Cause}
 use Rattle.dxc_model.specs.declared.cause.Cause.TheVariants.{DiskFault, NoMiddle, SwitchLimit, JournalAstray}
 use Rattle.dxc_model.specs.declared.conn.Conn.{Conn}
@@ -77,7 +79,7 @@ module _ (o : Opening) (place : ℕ) (h : List Entry) (s : Attending) where
     saw = marked.0.saw;
   }
 
-  module _ (op : Op) (seen : List Gv) (how : Changed) (x : ChangedIs o place h op seen how) where
+  module _ (op : Op) (seen : List Gv) (how : Result Changed Stopped) (x : ChangedIs o place h op seen how) where
     -- the operation stands behind what was mended
     changes_by : (out : Outcome) (r : Reply) (m : MendedTo o place h (entry place op out) seen) → IsChangeAt (h ++ m.front) out → ChangeReply out r → Acts o place h s (Changes op) r s seen
     changes_by out r m fits reply =
@@ -98,27 +100,27 @@ module _ (o : Opening) (place : ℕ) (h : List Entry) (s : Attending) where
           saw = subst (λ (l : List Entry). Saw o seen l) (append_assoc h m.front (entry place op out ∷ []) ∙ ap (λ (l : List Entry). l ++ (m.front ++ entry place op out ∷ [])) (sym all)) m.saw;
         }
 
-    pub acts_done : how ≡ changed.Done → Acts o place h s (Changes op) completed s seen
-    acts_done is = let y = subst (λ (z : Changed). ChangedIs o place h op seen z) is x in changes_by (Done y.0) completed y.1 y.2 refl
+    pub acts_done : how ≡ Ok changed.Done → Acts o place h s (Changes op) completed s seen
+    acts_done is = let y = subst (λ (z : Result Changed Stopped). ChangedIs o place h op seen z) is x in changes_by (Done y.0) completed y.1 y.2 refl
 
-    pub acts_refused : (q : Cause) → how ≡ changed.Denied q → Acts o place h s (Changes op) (denied q) s seen
-    acts_refused q is = let y = subst (λ (z : Changed). ChangedIs o place h op seen z) is x in changes_by (refused q) (denied q) y.0 y.1 (refused_reply q)
+    pub acts_refused : (q : Cause) → how ≡ Ok (changed.Denied q) → Acts o place h s (Changes op) (denied q) s seen
+    acts_refused q is = let y = subst (λ (z : Result Changed Stopped). ChangedIs o place h op seen z) is x in changes_by (refused q) (denied q) y.0 y.1 (refused_reply q)
 
-    pub acts_stopped : how ≡ changed.Stopped → Stops o place h s (Changes op) s seen
-    acts_stopped is = elim (subst (λ (z : Changed). ChangedIs o place h op seen z) is x) [
+    pub acts_stopped : how ≡ Err the_stop → Stops o place h s (Changes op) s seen
+    acts_stopped is = elim (subst (λ (z : Result Changed Stopped). ChangedIs o place h op seen z) is x) [
       | inl cut ↦ record { front = cut.0.front; stands = cut.0.mends; op = op; cuts = inl (refl, cut.1); attending = refl; saw = cut.0.saw }
       | inr restart ↦ record { front = restart.0.front; stands = restart.0.mends; op = Restart; cuts = inr (refl, restart.1); attending = refl; saw = restart.0.saw }
     ]
 
-  module _ (seen : List Gv) (how : Changed) (x : WarmRestartIs o place h seen how) where
+  module _ (seen : List Gv) (how : Result Changed Stopped) (x : WarmRestartIs o place h seen how) where
     restarts_by : (out : Outcome) (r : Reply) → Passed o place h (entry place Restart out) seen → RestartReply out r → Acts o place h s Restarts r s seen
     restarts_by out r p reply = record { passed = p.passed; unused = p.unused; entries = entry place Restart out ∷ []; serves = (out, refl, reply); attending = refl; saw = p.saw }
 
-    pub acts_restarted : how ≡ changed.Done → Acts o place h s Restarts restarted s seen
-    acts_restarted is = let y = subst (λ (z : Changed). WarmRestartIs o place h seen z) is x in restarts_by (Restarted y.0) restarted y.1 refl
+    pub acts_restarted : how ≡ Ok changed.Done → Acts o place h s Restarts restarted s seen
+    acts_restarted is = let y = subst (λ (z : Result Changed Stopped). WarmRestartIs o place h seen z) is x in restarts_by (Restarted y.0) restarted y.1 refl
 
-    pub acts_unrestarted : (q : Cause) → how ≡ changed.Denied q → Acts o place h s Restarts (denied q) s seen
-    acts_unrestarted q is = let y = subst (λ (z : Changed). WarmRestartIs o place h seen z) is x in restarts_by (Failed q) (denied q) y refl
+    pub acts_unrestarted : (q : Cause) → how ≡ Ok (changed.Denied q) → Acts o place h s Restarts (denied q) s seen
+    acts_unrestarted q is = let y = subst (λ (z : Result Changed Stopped). WarmRestartIs o place h seen z) is x in restarts_by (Failed q) (denied q) y refl
 
-    pub acts_cut : how ≡ changed.Stopped → Stops o place h s Restarts s seen
-    acts_cut is = let y = subst (λ (z : Changed). WarmRestartIs o place h seen z) is x in record { front = y.passed; stands = y.unused; op = Restart; cuts = refl; attending = refl; saw = y.saw }
+    pub acts_cut : how ≡ Err the_stop → Stops o place h s Restarts s seen
+    acts_cut is = let y = subst (λ (z : Result Changed Stopped). WarmRestartIs o place h seen z) is x in record { front = y.passed; stands = y.unused; op = Restart; cuts = refl; attending = refl; saw = y.saw }

@@ -1,11 +1,12 @@
 -- A unit was answered in the shelf's language.
-use Rattle.std.specs.Prelude.{is_some}
-use Rattle.std.proofs.Common.{◌≡◌, ◌≢◌, ◌++◌, ℕ, Bool, true, false, List, [], Option, Some, None, ap, inl, inr, refl, sym, ◌∙◌, subst}
+use Rattle.std.specs.Prelude.{is_some, IsOk}
+use Rattle.std.proofs.Common.{◌≡◌, ◌≢◌, ◌++◌, ℕ, Bool, true, false, List, [], Option, Some, None, Result, Ok, Err, ap, inl, inr, refl, sym, ◌∙◌, subst}
 use base.Stored.{Gv}
 use Rattle.dxc_outside.specs.declared.clock.Moment.{Moment}
 use Rattle.dxc_outside.specs.declared.gate.GatePlace.{GatePlace}
 use Rattle.dxc_outside.specs.declared.send.Sent.{Sent}
 use Rattle.dxc_outside.specs.declared.send.Sent.TheVariants.{Whole, Cut as Sent_cut}
+use Rattle.dxc_outside.specs.declared.stopped.Stopped.{Stopped}
 use Rattle.dxc_outside.specs.Links.{LinkState}
 use Rattle.dxc_model.specs.declared.entry.Entry.{Entry}
 use Rattle.dxc_model.specs.declared.user.SessionUser.{SessionUser}
@@ -23,7 +24,7 @@ use Rattle.xc_core.specs.States.{Opening}
 use Rattle.xc_core.specs.Seeing.{Saw}
 use Rattle.craft_session.specs.declared.ask.Ask.{Ask}
 use Rattle.craft_session.specs.declared.end.Progress.{Progress}
-use Rattle.craft_session.specs.declared.end.Progress.TheVariants.{On, Cut, Stopped}
+use Rattle.craft_session.specs.declared.end.Progress.TheVariants.{On, Cut}
 use Rattle.craft_session.specs.Acting.{Acts, Stops}
 use Rattle.craft_session.specs.Asks.{Language, Reply, asks_program, is_told_as}
 use Rattle.craft_session.specs.Happenings.{Request}
@@ -37,7 +38,6 @@ use Rattle.craft_session.specs.Sessions.{Now, Beginning, Halts, IsAt, IsSaid, St
 use Rattle.craft_session.specs.Stamps.{Stamp, stamp_at}
 use Rattle.craft_session.specs.Timely.{IsTimely, reached, starting, telling}
 use Rattle.craft_session.proofs.Consulted.{Learns}
-use Rattle.craft_session.proofs.Ends.{cut_goes, on_goes}
 use Rattle.craft_session.proofs.Learning.{cut_untold, given, given_as, replied_given, tells, tells_asked}
 use Rattle.craft_session.proofs.SessionSteps.{answered_in_time, goes_on, goes_cut, goes_stopped, goes_unheard, whole_ended, long_ended}
 use Rattle.craft_session.proofs.Timely.{timely_none}
@@ -102,16 +102,16 @@ module _ (s : Contents) (first : SessionUser) (told clock_told : Type 0) (k j : 
           (there (λ o n seen. (h : List UserEntry) → SawUsers o seen h → TurnedBack o n h after.users) t.unasked.behind) t.seen t.attending
     ]
 
-    pub answered : (how : Progress) → IsAnswered s told clock_told j j2 d d2 u seat users now after how → Goes (language_for first s) told clock_told k j2 c d2 b after how (is_some after.attending.watch) r ahead
-    answered On x = goes_on (language_for first s) told clock_told k c b j d now r kind ahead stands (unit_told x.heard x.standing) ended j2 d2 x.reply after (said_on Whole x) (learns_told x.heard x.standing x.behind) (acts (asks s now.attending.user x.heard u) x.reply x.acts)
-    answered Cut x = goes_cut (language_for first s) told clock_told k c b j d now r kind ahead stands (unit_told x.heard x.standing) ended j2 d2 x.reply after (said_on Sent_cut x) (learns_told x.heard x.standing x.behind) (acts (asks s now.attending.user x.heard u) x.reply x.acts)
-    answered Stopped x = answered_by_stop x
+    pub answered : (how : Result Progress Stopped) → IsAnswered s told clock_told j j2 d d2 u seat users now after how → Goes (language_for first s) told clock_told k j2 c d2 b after how (is_some after.attending.watch) r ahead
+    answered (Ok On) x = goes_on (language_for first s) told clock_told k c b j d now r kind ahead stands (unit_told x.heard x.standing) ended j2 d2 x.reply after (said_on Whole x) (learns_told x.heard x.standing x.behind) (acts (asks s now.attending.user x.heard u) x.reply x.acts)
+    answered (Ok Cut) x = goes_cut (language_for first s) told clock_told k c b j d now r kind ahead stands (unit_told x.heard x.standing) ended j2 d2 x.reply after (said_on Sent_cut x) (learns_told x.heard x.standing x.behind) (acts (asks s now.attending.user x.heard u) x.reply x.acts)
+    answered (Err e) x = answered_by_stop x
 
-    pub answered_timely : (stamped : Stamp → Type 0) (seat2 : SeatAt) (users2 : UserSeatAt) → IsAt b seat2 users2 → seat2.seen ≡ after.seen → users2.seen ≡ after.users → (how : Progress) → IsAnswered s told clock_told j j2 d d2 u seat users now after how
-        → (how ≢ Stopped → stamped (stamp_at d j seat2 users2)) → IsTimely (language_for first s) (telling told clock_told stamped) (starting k c b) j (reached j2.written seat2.seen users2.seen)
-    answered_timely stamped seat2 users2 at2 seen2 users_seen2 On x was = answered_in_time (language_for first s) told clock_told k c b j d now r kind ahead stands (unit_told x.heard x.standing) j2 d2 ended.0 x.reply after (learns_told x.heard x.standing x.behind) (acts (asks s now.attending.user x.heard u) x.reply x.acts) stamped seat2 users2 Whole (said_on Whole x) at2 seen2 users_seen2 (was (on_goes On refl))
-    answered_timely stamped seat2 users2 at2 seen2 users_seen2 Cut x was = answered_in_time (language_for first s) told clock_told k c b j d now r kind ahead stands (unit_told x.heard x.standing) j2 d2 ended.0 x.reply after (learns_told x.heard x.standing x.behind) (acts (asks s now.attending.user x.heard u) x.reply x.acts) stamped seat2 users2 Sent_cut (said_on Sent_cut x) at2 seen2 users_seen2 (was (cut_goes Cut refl))
-    answered_timely stamped seat2 users2 at2 seen2 users_seen2 Stopped x was = timely_none (language_for first s) (telling told clock_told stamped) (starting k c b) j (reached j2.written seat2.seen users2.seen) (ap (λ (y : LinkState). y.written) x.link)
+    pub answered_timely : (stamped : Stamp → Type 0) (seat2 : SeatAt) (users2 : UserSeatAt) → IsAt b seat2 users2 → seat2.seen ≡ after.seen → users2.seen ≡ after.users → (how : Result Progress Stopped) → IsAnswered s told clock_told j j2 d d2 u seat users now after how
+        → (IsOk how → stamped (stamp_at d j seat2 users2)) → IsTimely (language_for first s) (telling told clock_told stamped) (starting k c b) j (reached j2.written seat2.seen users2.seen)
+    answered_timely stamped seat2 users2 at2 seen2 users_seen2 (Ok On) x was = answered_in_time (language_for first s) told clock_told k c b j d now r kind ahead stands (unit_told x.heard x.standing) j2 d2 ended.0 x.reply after (learns_told x.heard x.standing x.behind) (acts (asks s now.attending.user x.heard u) x.reply x.acts) stamped seat2 users2 Whole (said_on Whole x) at2 seen2 users_seen2 (was refl)
+    answered_timely stamped seat2 users2 at2 seen2 users_seen2 (Ok Cut) x was = answered_in_time (language_for first s) told clock_told k c b j d now r kind ahead stands (unit_told x.heard x.standing) j2 d2 ended.0 x.reply after (learns_told x.heard x.standing x.behind) (acts (asks s now.attending.user x.heard u) x.reply x.acts) stamped seat2 users2 Sent_cut (said_on Sent_cut x) at2 seen2 users_seen2 (was refl)
+    answered_timely stamped seat2 users2 at2 seen2 users_seen2 (Err e) x was = timely_none (language_for first s) (telling told clock_told stamped) (starting k c b) j (reached j2.written seat2.seen users2.seen) (ap (λ (y : LinkState). y.written) x.link)
 
 -- a unit that ended, whole or too long
 pub input_ended : (l : Language Request Moment) (told clock_told : Type 0) (k j : LinkState) (c d : List Moment) (b : Beginning) (now : Now) (r : Reader) (ahead : List ℕ) (kind : UnitKind) (s : Stands l told clock_told k j c d b now false kind r ahead) → kind ≢ More → IsUnit s.rest (input_of kind r) × (hand r ≡ [])
@@ -121,9 +121,9 @@ input_ended l told clock_told k j c d b now r ahead More s ended = absurd (ended
 
 -- a response was written, or a part of it
 pub answered_by : (s : Contents) (told clock_told : Type 0) (k j : LinkState) (c d : List Moment) (u : Input) (seat : SeatAt) (users : UserSeatAt) (before after : Now) (sent : Sent) (how : Progress) → how ≡ progress_of sent
-    → IsSaidOf s told clock_told k j c d sent u seat users before after → IsAnswered s told clock_told k j c d u seat users before after how
-answered_by s told clock_told k j c d u seat users before after Whole how is x = subst (λ (y : Progress). IsAnswered s told clock_told k j c d u seat users before after y) (sym is) x
-answered_by s told clock_told k j c d u seat users before after Sent_cut how is x = subst (λ (y : Progress). IsAnswered s told clock_told k j c d u seat users before after y) (sym is) x
+    → IsSaidOf s told clock_told k j c d sent u seat users before after → IsAnswered s told clock_told k j c d u seat users before after (Ok how)
+answered_by s told clock_told k j c d u seat users before after Whole how is x = subst (λ (y : Progress). IsAnswered s told clock_told k j c d u seat users before after (Ok y)) (sym is) x
+answered_by s told clock_told k j c d u seat users before after Sent_cut how is x = subst (λ (y : Progress). IsAnswered s told clock_told k j c d u seat users before after (Ok y)) (sym is) x
 
 module _ (s : Contents) (told clock_told : Type 0) (k j : LinkState) (c d : List Moment) (u : Input) (seat : SeatAt) (users : UserSeatAt) (before after : Now) (a : Ask) (rows : List UserRow)
     (gate : List GatePlace → Type 0) (x : IsAsked users (wants s before.attending.user u) (λ y. asks s before.attending.user y u) a rows after.users gate) where
@@ -156,7 +156,7 @@ pub unheard_of : (s : Contents) (k : LinkState) (c : List Moment) (u : Input) (s
 unheard_of s k c u seat users before after x seen attending = record { link = refl; clock = refl; stopped = inr (record { unasked = x; seen = seen; attending = attending }) }
 
 -- what a call does to a session stands for the language and the seat that the session began with
-module _ {Shelf : Type 0} (value : Shelf → Contents) (first : SessionUser) (told clock_told : Type 0) (j j2 : LinkState) (d d2 : List Moment) (now after : Now) (due : Bool) (r r2 : Reader) (how : Progress) (old new : Shelf) (was is_now : SeatAt) (users_was users_now : UserSeatAt) where
+module _ {Shelf : Type 0} (value : Shelf → Contents) (first : SessionUser) (told clock_told : Type 0) (j j2 : LinkState) (d d2 : List Moment) (now after : Now) (due : Bool) (r r2 : Reader) (how : Result Progress Stopped) (old new : Shelf) (was is_now : SeatAt) (users_was users_now : UserSeatAt) where
   pub moved_goes : (ahead more : List ℕ) → new ≡ old → IsSameSeat was is_now → IsSameUserSeat users_was users_now
       → ((k : LinkState) (c : List Moment) (b : Beginning) → IsAt b is_now users_now → Stands (language_for first (value new)) told clock_told k j c d b now due More r ahead → Goes (language_for first (value new)) told clock_told k j2 c d2 b after how false r2 more)
       → (k : LinkState) (c : List Moment) (b : Beginning) → IsAt b was users_was → Stands (language_for first (value old)) told clock_told k j c d b now due More r ahead → Goes (language_for first (value old)) told clock_told k j2 c d2 b after how false r2 more

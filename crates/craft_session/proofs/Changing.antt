@@ -1,9 +1,11 @@
 -- A changing command's entries, behind those that no unit uses.
-use Rattle.std.proofs.Common.{◌≡◌, ◌≢◌, ℕ, List, [], ◌∷◌, ◌++◌, append-nil, append_assoc, Option, refl, sym, ◌∙◌, ap, subst, inl, inr}
+use Rattle.std.proofs.Common.{◌≡◌, ◌≢◌, ℕ, List, [], ◌∷◌, ◌++◌, append-nil, append_assoc, Option, Result, Ok, Err, refl, sym, ◌∙◌, ap, subst, inl, inr}
 use base.Stored.{Gv}
 use Rattle.turnstile.specs.Turning.{Each}
 use Rattle.dxc_disk.specs.Disks.{DiskState}
 use Rattle.dxc_num.specs.Dimensions.{Dimensions}
+use Rattle.dxc_outside.specs.declared.stopped.Stopped.{Stopped}
+use Rattle.dxc_outside.specs.Stops.{the_stop}
 use Rattle.dxc_model.specs.declared.op.Op.{Op}
 use Rattle.dxc_model.specs.declared.op.Op.TheVariants.{Restart}
 use Rattle.dxc_model.specs.declared.op.Change.{Change}
@@ -27,7 +29,7 @@ use Rattle.xc_core.specs.Begins.{plan_of}
 use Rattle.xc_core.specs.Seeing.{HasFailed, HasHeld, HasPlan, IsDueFor, IsOfStop, Saw, Turned, TurnedBack, entry, refused}
 use Rattle.xc_core.specs.Turns.{CutIs, DoneIs, FailedIs, HoldIs, RestartCutIs, RestartedIs, TookIs}
 use Rattle.craft_session.specs.declared.change.Changed.{Changed}
-use Rattle.craft_session.specs.declared.change.Changed.TheVariants.{Done, Denied, Stopped}
+use Rattle.craft_session.specs.declared.change.Changed.TheVariants.{Done, Denied}
 use Rattle.craft_session.specs.declared.mend.Mended.{Mended}
 use Rattle.craft_session.specs.declared.mend.Mended.TheVariants as mended
 use Rattle.craft_session.specs.Changing.{ChangedIs, MendedBy, MendedIs, MendedTo, Passed, PassedBy, WarmRestartIs}
@@ -127,10 +129,10 @@ module _ (o : Opening) (own : ℕ) (h : List Entry) where
     saw = subst (λ (l : List Entry). Saw o then_seen (l ++ e ∷ [])) (append_assoc h b.front m.front) m.saw;
   }
 
-  pub changed_on : (op : Op) (seen then_seen : List Gv) (b : MendedBy o own h seen) (how : Changed) → ChangedIs o own (h ++ b.front) op then_seen how → ChangedIs o own h op then_seen how
-  changed_on op seen then_seen b Done x = (x.0, mended_on _ seen then_seen b x.1, subst (λ (l : List Entry). IsChangeAt l (outcome.Done x.0)) (append_assoc h b.front x.1.front) x.2)
-  changed_on op seen then_seen b (Denied q) x = (mended_on _ seen then_seen b x.0, subst (λ (l : List Entry). IsChangeAt l (refused q)) (append_assoc h b.front x.0.front) x.1)
-  changed_on op seen then_seen b Stopped x = elim x [
+  pub changed_on : (op : Op) (seen then_seen : List Gv) (b : MendedBy o own h seen) (how : Result Changed Stopped) → ChangedIs o own (h ++ b.front) op then_seen how → ChangedIs o own h op then_seen how
+  changed_on op seen then_seen b (Ok Done) x = (x.0, mended_on _ seen then_seen b x.1, subst (λ (l : List Entry). IsChangeAt l (outcome.Done x.0)) (append_assoc h b.front x.1.front) x.2)
+  changed_on op seen then_seen b (Ok (Denied q)) x = (mended_on _ seen then_seen b x.0, subst (λ (l : List Entry). IsChangeAt l (refused q)) (append_assoc h b.front x.0.front) x.1)
+  changed_on op seen then_seen b (Err e) x = elim x [
     | inl cut ↦ inl (mended_on _ seen then_seen b cut.0, subst (λ (l : List Entry). IsStopped l → ⊥) (append_assoc h b.front cut.0.front) cut.1)
     | inr restart ↦ inr (mended_on _ seen then_seen b restart.0, subst IsRestartDue (append_assoc h b.front restart.0.front) restart.1)
   ]
@@ -142,25 +144,25 @@ module _ (o : Opening) (own : ℕ) (h : List Entry) where
   turned_mended e seen t = passed_mended e seen (turned_passed e seen t)
 
   -- the work was carried out
-  pub changed_done : (op : Op) (seen : List Gv) → DoneIs o own h op seen → ChangedIs o own h op seen Done
+  pub changed_done : (op : Op) (seen : List Gv) → DoneIs o own h op seen → ChangedIs o own h op seen (Ok Done)
   changed_done op seen x = (x.0, turned_mended (entry own op (outcome.Done x.0)) seen x.1, change_at (h ++ x.1.later) (outcome.Done x.0) x.2 (λ is. cc))
 
-  pub changed_cut : (op : Op) (seen : List Gv) → CutIs o own h op seen → ChangedIs o own h op seen Stopped
+  pub changed_cut : (op : Op) (seen : List Gv) → CutIs o own h op seen → ChangedIs o own h op seen (Err the_stop)
   changed_cut op seen x = inl (turned_mended (entry own op Cut) seen x.0, x.1)
 
   -- a restart ended, failed or was cut
   module _ (d : Dimensions) (op : Op) (apt : IsApt d op) (seen : List Gv) where
-    pub mend_denied : (q : Cause) → MendedIs o own h op seen (mended.Denied q) → ChangedIs o own h op seen (Denied q)
+    pub mend_denied : (q : Cause) → MendedIs o own h op seen (Ok (mended.Denied q)) → ChangedIs o own h op seen (Ok (Denied q))
     mend_denied q x =
         let due = due_now d op (h ++ x.0.passed) apt x.2 in
         let m = passed_mended (entry own op (Failed q)) seen x.0 in
         subst (λ (out : Outcome). (m : MendedTo o own h (entry own op out) seen) × IsChangeAt (h ++ m.front) out) (sym (fault_refused q x.1)) (m, fault_at (h ++ x.0.passed) q x.1 due)
 
-    pub mend_stopped : MendedIs o own h op seen mended.Stopped → ChangedIs o own h op seen Stopped
+    pub mend_stopped : MendedIs o own h op seen (Err the_stop) → ChangedIs o own h op seen (Err the_stop)
     mend_stopped x = inr (passed_mended (entry own Restart Cut) seen x.0, due_now d op (h ++ x.0.passed) apt x.1)
 
   -- by a fault of the journal, behind a plan
-  pub changed_fault : {D : Type 0} (told : Type 0) (state : D → DiskState) (op : Op) (p : Provisioner D) (seen : List Gv) → (IsStopped h → ⊥) → FailedIs told state o own h op DiskFault p seen → ChangedIs o own h op seen (Denied DiskFault)
+  pub changed_fault : {D : Type 0} (told : Type 0) (state : D → DiskState) (op : Op) (p : Provisioner D) (seen : List Gv) → (IsStopped h → ⊥) → FailedIs told state o own h op DiskFault p seen → ChangedIs o own h op seen (Ok (Denied DiskFault))
   changed_fault told state op p seen unstopped x = (turned_mended (entry own op (Failed DiskFault)) seen x.0, change_at (h ++ x.0.later) (Failed DiskFault) (λ stopped. unstopped (x.2 stopped)) (λ is. let y : Failed DiskFault ≡ Failed JournalAstray = is in cc))
 
   -- the Provisioner was taken, and the work planned
@@ -168,7 +170,7 @@ module _ (o : Opening) (own : ℕ) (h : List Entry) where
     pub took_rolling : (d : Boxed D) (bytes : List ℕ) → t ≡ took.Rolling d bytes → (turn : Turned o own h (entry own op Taken) seen) × HasPlan told state o own ((h ++ turn.later) ++ entry own op Taken ∷ []) d.value.p (plan_of op d.value.rolling bytes)
     took_rolling d bytes is = subst (λ (x : Took D). TookIs told state o own h op seen x) is at
 
-    pub took_denied : (q : Cause) → t ≡ took.Denied q → ChangedIs o own h op seen (Denied q)
+    pub took_denied : (q : Cause) → t ≡ took.Denied q → ChangedIs o own h op seen (Ok (Denied q))
     took_denied q is =
         let x = subst (λ (y : Took D). TookIs told state o own h op seen y) is at in
         (turned_mended (entry own op (refused q)) seen x.0, change_at (h ++ x.0.later) (refused q) x.1 (refused_astray q (λ astray. x.2 (inr astray))))
@@ -186,20 +188,20 @@ module _ (o : Opening) (own : ℕ) (h : List Entry) where
   abbrev pub turned_back_mended : (seen : List Gv) → TurnedBack o own h seen → MendedBy o own h seen
   turned_back_mended seen t = record { front = t.later; mends = unused_mends own h t.later (others_unused own t.later t.others); saw = t.saw }
 
-  pub mended_on_turns : (asked : Op) (seen then_seen : List Gv) (b : PassedBy o own h seen) (how : Mended) → MendedIs o own (h ++ b.passed) asked then_seen how → MendedIs o own h asked then_seen how
-  mended_on_turns asked seen then_seen b mended.Ready x = (x.0, passed_on _ seen then_seen b x.1, subst (λ (l : List Entry). IsDueFor asked l) (append_assoc h b.passed x.1.passed) x.2, subst (λ (l : List Entry). IsOfStop x.0 l) (append_assoc h b.passed x.1.passed) x.3)
-  mended_on_turns asked seen then_seen b (mended.Denied q) x = (passed_on _ seen then_seen b x.0, x.1, subst (λ (l : List Entry). IsDueFor asked l) (append_assoc h b.passed x.0.passed) x.2)
-  mended_on_turns asked seen then_seen b mended.Stopped x = (passed_on _ seen then_seen b x.0, subst (λ (l : List Entry). IsDueFor asked l) (append_assoc h b.passed x.0.passed) x.1)
-  mended_on_turns asked seen then_seen b mended.Waits x = record {
+  pub mended_on_turns : (asked : Op) (seen then_seen : List Gv) (b : PassedBy o own h seen) (how : Result Mended Stopped) → MendedIs o own (h ++ b.passed) asked then_seen how → MendedIs o own h asked then_seen how
+  mended_on_turns asked seen then_seen b (Ok mended.Ready) x = (x.0, passed_on _ seen then_seen b x.1, subst (λ (l : List Entry). IsDueFor asked l) (append_assoc h b.passed x.1.passed) x.2, subst (λ (l : List Entry). IsOfStop x.0 l) (append_assoc h b.passed x.1.passed) x.3)
+  mended_on_turns asked seen then_seen b (Ok (mended.Denied q)) x = (passed_on _ seen then_seen b x.0, x.1, subst (λ (l : List Entry). IsDueFor asked l) (append_assoc h b.passed x.0.passed) x.2)
+  mended_on_turns asked seen then_seen b (Err e) x = (passed_on _ seen then_seen b x.0, subst (λ (l : List Entry). IsDueFor asked l) (append_assoc h b.passed x.0.passed) x.1)
+  mended_on_turns asked seen then_seen b (Ok mended.Waits) x = record {
     passed = b.passed ++ x.passed;
     unused = each_append (IsUnused own) b.passed x.passed b.unused x.unused;
     saw = subst (λ (l : List Entry). Saw o then_seen l) (append_assoc h b.passed x.passed) x.saw;
   }
 
-  pub mended_ready : (asked : Op) (seen : List Gv) → RestartedIs o own h asked seen → MendedIs o own h asked seen mended.Ready
+  pub mended_ready : (asked : Op) (seen : List Gv) → RestartedIs o own h asked seen → MendedIs o own h asked seen (Ok mended.Ready)
   mended_ready asked seen x = (x.0, turned_passed (entry own Restart (Restarted x.0)) seen x.1, x.2, x.3)
 
-  pub mended_cut : (asked : Op) (seen : List Gv) → RestartCutIs o own h asked seen → MendedIs o own h asked seen mended.Stopped
+  pub mended_cut : (asked : Op) (seen : List Gv) → RestartCutIs o own h asked seen → MendedIs o own h asked seen (Err the_stop)
   mended_cut asked seen x = (turned_passed (entry own Restart Cut) seen x.0, x.1)
 
   module _ {D : Type 0} (told : Type 0) (state : D → DiskState) (asked : Op) (seen : List Gv) where
@@ -207,38 +209,38 @@ module _ (o : Opening) (own : ℕ) (h : List Entry) where
     pub held_out : (t : Held D) (d : Boxed D) → t ≡ held.Held d → HoldIs told state o own h asked seen t → (turn : Turned o own h (entry own Restart Taken) seen) × HasHeld told state o own asked ((h ++ turn.later) ++ entry own Restart Taken ∷ []) d.value.p
     held_out t d is at = subst (λ (x : Held D). HoldIs told state o own h asked seen x) is at
 
-    pub held_waits : (t : Held D) → t ≡ held.Waits → HoldIs told state o own h asked seen t → MendedIs o own h asked seen mended.Waits
+    pub held_waits : (t : Held D) → t ≡ held.Waits → HoldIs told state o own h asked seen t → MendedIs o own h asked seen (Ok mended.Waits)
     held_waits t is at = turned_back_passed seen (subst (λ (x : Held D). HoldIs told state o own h asked seen x) is at).0
 
     -- its journal failed, or reads otherwise than it was written
-    pub mended_fault : (q : Cause) (p : Provisioner D) → HasFailed told state o own Restart asked q h p → FailedIs told state o own h asked q p seen → MendedIs o own h asked seen (mended.Denied q)
+    pub mended_fault : (q : Cause) (p : Provisioner D) → HasFailed told state o own Restart asked q h p → FailedIs told state o own h asked q p seen → MendedIs o own h asked seen (Ok (mended.Denied q))
     mended_fault q p failed x =
         let then_failed = x.1 Restart failed in
         (turned_passed (entry own asked (Failed q)) seen x.0, failed.fault, elim then_failed.upon [ inl a ↦ inl a.0 | inr b ↦ b.1 ])
 
   -- INIT-SYS: what came of it, behind turns that entered nothing
-  module _ (seen then_seen : List Gv) (b : PassedBy o own h seen) (how : Mended) (x : MendedIs o own (h ++ b.passed) Restart then_seen how) where
+  module _ (seen then_seen : List Gv) (b : PassedBy o own h seen) (how : Result Mended Stopped) (x : MendedIs o own (h ++ b.passed) Restart then_seen how) where
     abbrev on : MendedIs o own h Restart then_seen how
     on = mended_on_turns Restart seen then_seen b how x
 
-    pub warm_done : how ≡ mended.Ready → WarmRestartIs o own h then_seen Done
-    warm_done is = let y = subst (λ (z : Mended). MendedIs o own h Restart then_seen z) is on in (y.0, y.1, y.3)
+    pub warm_done : how ≡ Ok mended.Ready → WarmRestartIs o own h then_seen (Ok Done)
+    warm_done is = let y = subst (λ (z : Result Mended Stopped). MendedIs o own h Restart then_seen z) is on in (y.0, y.1, y.3)
 
-    pub warm_denied : (q : Cause) → how ≡ mended.Denied q → WarmRestartIs o own h then_seen (Denied q)
-    warm_denied q is = (subst (λ (z : Mended). MendedIs o own h Restart then_seen z) is on).0
+    pub warm_denied : (q : Cause) → how ≡ Ok (mended.Denied q) → WarmRestartIs o own h then_seen (Ok (Denied q))
+    warm_denied q is = (subst (λ (z : Result Mended Stopped). MendedIs o own h Restart then_seen z) is on).0
 
-    pub warm_stopped : how ≡ mended.Stopped → WarmRestartIs o own h then_seen Stopped
-    warm_stopped is = (subst (λ (z : Mended). MendedIs o own h Restart then_seen z) is on).0
+    pub warm_stopped : how ≡ Err the_stop → WarmRestartIs o own h then_seen (Err the_stop)
+    warm_stopped is = (subst (λ (z : Result Mended Stopped). MendedIs o own h Restart then_seen z) is on).0
 
-    pub warm_waits : how ≡ mended.Waits → PassedBy o own h then_seen
-    warm_waits is = subst (λ (z : Mended). MendedIs o own h Restart then_seen z) is on
+    pub warm_waits : how ≡ Ok mended.Waits → PassedBy o own h then_seen
+    warm_waits is = subst (λ (z : Result Mended Stopped). MendedIs o own h Restart then_seen z) is on
 
   -- a changing command, behind restarts that were due
-  module _ (d : Dimensions) (op : Op) (apt : IsApt d op) (seen then_seen : List Gv) (b : MendedBy o own h seen) (how : Mended) (x : MendedIs o own (h ++ b.front) op then_seen how) where
-    pub mends_ready : how ≡ mended.Ready → MendedBy o own h then_seen
+  module _ (d : Dimensions) (op : Op) (apt : IsApt d op) (seen then_seen : List Gv) (b : MendedBy o own h seen) (how : Result Mended Stopped) (x : MendedIs o own (h ++ b.front) op then_seen how) where
+    pub mends_ready : how ≡ Ok mended.Ready → MendedBy o own h then_seen
     mends_ready is =
-        let y = subst (λ (z : Mended). MendedIs o own (h ++ b.front) op then_seen z) is x in
+        let y = subst (λ (z : Result Mended Stopped). MendedIs o own (h ++ b.front) op then_seen z) is x in
         mended_more seen then_seen b y.0 y.1 (due_now d op ((h ++ b.front) ++ y.1.passed) apt y.2)
 
-    pub mends_wait : how ≡ mended.Waits → MendedBy o own h then_seen
-    mends_wait is = mended_back seen then_seen b (subst (λ (z : Mended). MendedIs o own (h ++ b.front) op then_seen z) is x)
+    pub mends_wait : how ≡ Ok mended.Waits → MendedBy o own h then_seen
+    mends_wait is = mended_back seen then_seen b (subst (λ (z : Result Mended Stopped). MendedIs o own (h ++ b.front) op then_seen z) is x)

@@ -1,12 +1,13 @@
 -- What a session heard of the users, one case longer.
-use Rattle.std.proofs.Common.{◌≡◌, ◌≢◌, ℕ, true, Option, List, [], ◌∷◌, ◌++◌, append-nil, append_assoc, refl, sym, ◌∙◌, subst}
+use Rattle.std.proofs.Common.{◌≡◌, ◌≢◌, ℕ, true, Option, Result, Ok, Err, List, [], ◌∷◌, ◌++◌, append-nil, append_assoc, refl, sym, ◌∙◌, subst}
 use base.Stored.{Gv}
 use Rattle.turnstile.specs.Turning.{Each}
 use Rattle.dxc_outside.specs.declared.clock.Moment.{Moment}
 use Rattle.dxc_outside.specs.declared.gate.GatePlace.{GatePlace}
-use Rattle.dxc_outside.specs.declared.gate.Pass1.{Pass1}
-use Rattle.dxc_outside.specs.declared.gate.Pass1.TheVariants.{Go, Stop}
+use Rattle.dxc_outside.specs.declared.stopped.Stopped.{Stopped}
+use Rattle.dxc_num.specs.Dimensions.{Dimensions}
 use Rattle.dxc_model.specs.declared.user.SessionUser.{SessionUser}
+use Rattle.dxc_notes.specs.declared.note.Note.{Note}
 use Rattle.shelf_file.specs.Contents.{Contents}
 use Rattle.tl1_text.specs.Units.{Input}
 use Rattle.user_admin.specs.declared.op.UserEntry.{UserEntry}
@@ -21,6 +22,8 @@ use Rattle.craft_session.specs.Happenings.{Happening, Request, unit, quiet}
 use Rattle.craft_session.specs.Desks.{ConsultedIs, put_down}
 use Rattle.craft_session.specs.Hearing.{AskedIs, Heard, HeardBehind, IsAsked, Wanted, nothing, unasked}
 use Rattle.craft_session.specs.Meanings.{asks, tag_of, wants}
+use Rattle.craft_session.specs.Noted.{UsersNoted}
+use Rattle.craft_session.specs.Readings.{IsReadAs, Read, asked_after, wanted_by}
 use Rattle.craft_session.specs.Seats.{UserSeatAt}
 use Rattle.craft_session.specs.Sessions.{Beginning, Consulted}
 
@@ -70,7 +73,18 @@ asked_nothing seat w by a rows gate unasked_gate none is no_rows = record {
 }
 
 -- what was heard, with the tag of the unit that asked it
-pub consulted_by : (s : Contents) (user : SessionUser) (u : Input) (seat : UserSeatAt) (rows : List UserRow) (then_seen : List Gv) (gate : List GatePlace → Type 0) (tag : Option (List ℕ)) (a : Ask) (how : Pass1)
+pub consulted_by : (s : Contents) (user : SessionUser) (u : Input) (seat : UserSeatAt) (rows : List UserRow) (then_seen : List Gv) (gate : List GatePlace → Type 0) (tag : Option (List ℕ)) (a : Ask) (how : Result (Unit {0}) Stopped)
     → tag ≡ tag_of u → AskedIs seat (wants s user u) (λ x. asks s user x u) rows then_seen gate (put_down how a) → ConsultedIs s user u seat rows then_seen gate tag a how
-consulted_by s user u seat rows then_seen gate tag a Go is asked = (is, asked)
-consulted_by s user u seat rows then_seen gate tag a Stop is asked = asked
+consulted_by s user u seat rows then_seen gate tag a (Ok x) is asked = (is, asked)
+consulted_by s user u seat rows then_seen gate tag a (Err e) is asked = asked
+
+-- what was read is asked and noted as the unit
+module _ (d : Dimensions) (user : SessionUser) (w : Wanted) (by : Heard → Ask) (r : Read) (is : IsReadAs d user w by r) where
+  pub asked_as_read : (seat : UserSeatAt) (rows : List UserRow) (then_seen : List Gv) (gate : List GatePlace → Type 0) (o : Result Ask Stopped) → AskedIs seat (wanted_by user r) (asked_after user r) rows then_seen gate o → AskedIs seat w by rows then_seen gate o
+  asked_as_read seat rows then_seen gate (Ok a) x =
+      let y = subst (λ (v : Wanted). IsAsked seat v (asked_after user r) a rows then_seen gate) is.wanted x in
+      record { heard = y.heard; behind = y.behind; ask_is = y.ask_is ∙ is.asked y.heard; rows_are = y.rows_are; entered = y.entered }
+  asked_as_read seat rows then_seen gate (Err e) x = subst (λ (v : Wanted). AskedIs seat v by rows then_seen gate (Err e)) is.wanted x
+
+  pub noted_as_read : (noted : List Note → Type 0) (tag : Option (List ℕ)) (o : Result Ask Stopped) → UsersNoted noted user tag (wanted_by user r) o → UsersNoted noted user tag w o
+  noted_as_read noted tag o x = subst (λ (v : Wanted). UsersNoted noted user tag v o) is.wanted x

@@ -1,31 +1,18 @@
 -- What ended otherwise, and counts along calls, over plain variables.
-use Rattle.std.specs.Prelude.{is_some}
-use Rattle.std.proofs.Common.{◌≡◌, ◌≢◌, ◌<◌, ◌≤◌, ◌+◌, ℕ, Bool, true, false, Option, Some, None, le_of_eq, true≢false, List, ap, refl, sym, ◌∙◌, subst, arith}
+use Rattle.std.specs.Prelude.{IsErr, IsOk, is_ok}
+use Rattle.std.proofs.Common.{◌≡◌, ◌≢◌, ◌<◌, ◌≤◌, ◌+◌, ℕ, Bool, true, false, Result, Ok, Err, le_of_eq, true≢false, List, ap, refl, sym, ◌∙◌, subst, arith}
 use Rattle.dxc_causes.specs.Causes.{Counted, Rose}
+use Rattle.dxc_causes.specs.Stops.{RoseOnlyFor}
+use Rattle.dxc_causes.proofs.Stops.{has_risen, stands_still}
 use Rattle.dxc_outside.specs.declared.clock.Moment.{Moment}
-use Rattle.dxc_outside.specs.declared.gate.Pass1.{Pass1}
-use Rattle.dxc_outside.specs.declared.gate.Pass1.TheVariants as pass
+use Rattle.dxc_outside.specs.declared.stopped.Stopped.{Stopped}
+use Rattle.dxc_outside.specs.Stops.{the_stop}
 use Rattle.dxc_outside.specs.declared.link.Got.TheVariants.{Bytes, Quiet, End as NoMore, Failed as NotRead}
-use Rattle.dxc_outside.specs.declared.send.Sent.{Sent}
-use Rattle.dxc_outside.specs.declared.send.Sent.TheVariants.{Whole, Cut as Sent_cut}
 use Rattle.dxc_outside.specs.Links.{LinkState}
-use Rattle.roll_engine.specs.declared.answer.Advance.{Advance}
-use Rattle.roll_engine.specs.declared.answer.Advance.TheVariants as advance
-use Rattle.xc_core.specs.declared.noting.Noted.{Noted}
-use Rattle.xc_core.specs.declared.noting.Noted.TheVariants as noted
-use Rattle.xc_core.specs.declared.resuming.Reread.{Reread}
-use Rattle.xc_core.specs.declared.resuming.Reread.TheVariants as reread
-use Rattle.craft_session.specs.declared.change.Changed.{Changed}
-use Rattle.craft_session.specs.declared.change.Changed.TheVariants as changed
 use Rattle.craft_session.specs.declared.end.SessionEnd.{SessionEnd}
 use Rattle.craft_session.specs.declared.end.SessionEnd.TheVariants as session
-use Rattle.craft_session.specs.declared.end.Progress.{Progress}
-use Rattle.craft_session.specs.declared.end.Progress.TheVariants.{On, Cut, Stopped}
-use Rattle.craft_session.specs.declared.mend.Mended.{Mended}
-use Rattle.craft_session.specs.declared.mend.Mended.TheVariants as mended
 use Rattle.craft_session.specs.Asks.{Language}
 use Rattle.craft_session.specs.Happenings.{Request}
-use Rattle.craft_session.specs.Progresses.{progress_of}
 use Rattle.craft_session.specs.Seats.{SeatAt, UserSeatAt}
 use Rattle.craft_session.specs.Sessions.{Beginning, IsServed, IsSession, Now}
 
@@ -36,55 +23,52 @@ apart test how one other is holds fails also = true≢false (sym holds ∙ ap te
 pub unheld : {X : Type 0} (b : Bool) → b ≡ false → b ≡ true → X
 unheld b is holds = absurd (true≢false (sym holds ∙ is))
 
-pub some_there : {A : Type 0} (o : Option A) (x : A) → o ≡ Some x → o ≢ None
-some_there o x is = apart is_some o (Some x) None is refl refl
+-- what went on isn't what a stop ended
+pub went_on : {X A : Type 0} (v : A) → ◌≡◌ {A = Result A Stopped} (Ok v) (Err the_stop) → X
+went_on v is = absurd (true≢false (ap is_ok is))
 
--- whether no stop came
-abbrev pub noted_goes : Noted → Bool
-noted_goes noted.Stopped = false
-noted_goes _ = true
+pub no_error : {X A : Type 0} (v : A) → IsErr {E = Stopped} (Ok v) → X
+no_error v is = absurd (true≢false (sym is))
 
-abbrev pub reread_goes : Reread → Bool
-reread_goes reread.Stopped = false
-reread_goes _ = true
+-- what an exit by `?` answers
+pub by_stop : {A : Type 0} (P : Result A Stopped → Type 0) (r : Result A Stopped) → IsErr r → P (Err the_stop) → P r
+by_stop P (Ok v) is holds = no_error v is
+by_stop P (Err e) is holds = holds
 
-abbrev pub advance_goes : Advance → Bool
-advance_goes advance.Stopped = false
-advance_goes _ = true
+pub is_stop : {A : Type 0} (r : Result A Stopped) → IsErr r → r ≡ Err the_stop
+is_stop r is = by_stop (λ x. x ≡ Err the_stop) r is refl
 
-abbrev pub pass_goes : Pass1 → Bool
-pass_goes pass.Stop = false
-pass_goes _ = true
+pub not_ok : {X A : Type 0} (r : Result A Stopped) → IsErr r → IsOk r → X
+not_ok (Ok v) is ok = no_error v is
+not_ok (Err e) is ok = absurd (true≢false (sym ok))
 
--- no stop came
-pub stop_went : {X : Type 0} → pass.Go ≡ pass.Stop → X
-stop_went is = absurd (apart pass_goes pass.Go pass.Go pass.Stop refl refl refl is)
+-- a count of stops where a call goes on that asked nothing, or that nothing stopped
+pub no_stop : {A : Type 0} (v : A) (a b : ℕ) → b ≡ a → RoseOnlyFor a b (IsErr {E = Stopped} (Ok v))
+no_stop v a b same = stands_still a b (IsErr {E = Stopped} (Ok v)) same (λ is. no_error v is)
 
-pub stop_goes : {X : Type 0} → pass.Stop ≡ pass.Go → X
-stop_goes is = stop_went (sym is)
+-- it stands as it was where a call went on
+pub stayed_ok : {A : Type 0} (v : A) (r : Result A Stopped) (a b : ℕ) → r ≡ Ok v → RoseOnlyFor a b (IsErr r) → b ≡ a
+stayed_ok {A} v r a b is rose = (subst (λ (x : Result A Stopped). RoseOnlyFor a b (IsErr x)) is rose).only (λ e. no_error v e)
 
-abbrev pub changed_goes : Changed → Bool
-changed_goes changed.Stopped = false
-changed_goes _ = true
+-- the same, whatever it goes on with
+pub never : {X : Type 0} → false ≡ true → X
+never is = absurd (true≢false (sym is))
 
-abbrev pub mended_goes : Mended → Bool
-mended_goes mended.Stopped = false
-mended_goes _ = true
+pub still : (a b : ℕ) → b ≡ a → RoseOnlyFor a b (false ≡ true)
+still a b same = stands_still a b (false ≡ true) same (λ is. never is)
 
-abbrev pub progress_goes : Progress → Bool
-progress_goes Stopped = false
-progress_goes _ = true
+-- where it stood as it was first
+pub rose_after : (a b c : ℕ) (came : Type 0) → b ≡ a → RoseOnlyFor b c came → RoseOnlyFor a c came
+rose_after a b c came same rose = subst (λ (n : ℕ). RoseOnlyFor n c came) same rose
 
-pub on_goes : (how : Progress) → how ≡ On → how ≢ Stopped
-on_goes how is = apart progress_goes how On Stopped is refl refl
+-- where a stop came, by whatever this was told
+pub rose_by : (a b : ℕ) (came then_came : Type 0) → RoseOnlyFor a b came → came → then_came → RoseOnlyFor a b then_came
+rose_by a b came then_came rose is then_is = has_risen a b then_came rose.later (rose.cause is) then_is
 
-pub cut_goes : (how : Progress) → how ≡ Cut → how ≢ Stopped
-cut_goes how is = apart progress_goes how Cut Stopped is refl refl
-
--- no stop comes of what was written
-pub sent_goes : (sent : Sent) (how : Progress) → how ≡ progress_of sent → how ≢ Stopped
-sent_goes Whole how is = on_goes how is
-sent_goes Sent_cut how is = cut_goes how is
+-- a gate was asked last
+pub gate_passed : (r : Result (Unit {0}) Stopped) (a b : ℕ) → (r ≡ Ok tt → b ≡ a) → (r ≡ Err the_stop → Rose a b) → a ≤ b → RoseOnlyFor a b (IsErr r)
+gate_passed (Ok x) a b go stop later = still a b (go refl)
+gate_passed (Err e) a b go stop later = has_risen a b (true ≡ true) later (stop refl) refl
 
 -- a session's end is no other
 abbrev is_end : SessionEnd → Bool

@@ -4,7 +4,7 @@ use Rattle.std.specs.List.{slice_get}
 use Rattle.dxc_disk.specs.Disks.{DiskState}
 use Rattle.fabric_words.specs.Seats.{FabricId}
 use Rattle.shelf_file.specs.Contents.{Contents}
-use Rattle.turnstile.specs.Passing.{ArePasses, Gate, Ident, Token}
+use Rattle.turnstile.specs.Passing.{ArePasses, TurnstileView, Ident, Token}
 use Rattle.xc_core.specs.declared.state.State.{State}
 use Rattle.xc_core.specs.States.{Opening, began, opening_of}
 use Rattle.xc_core.proofs.Began.{began_rests, saw_nothing}
@@ -67,7 +67,7 @@ none_astray told t (e ∷ h) is = cc
 
 module _ {D : Type 0} (told : Type 0) (state : D → DiskState) where
   -- a fresh pass is seated at such a state
-  pub seated : (p : Token) (t : Gate (State D)) (i : FabricId) (n : ℕ) → p ≡ fresh t.id n → n < t.passes → (opening_of state t.first).site.fabric ≡ i → IsSeated told state p t i
+  pub seated : (p : Token) (t : TurnstileView (State D)) (i : FabricId) (n : ℕ) → p ≡ fresh t.id n → n < t.passes → (opening_of state t.first).site.fabric ≡ i → IsSeated told state p t i
   seated p t i n is within fabric =
       let o = opening_of state t.first in
       subst (λ (q : Token). IsSeated told state q t i) (sym is) ((refl, refl, within, none_numbered t.passes), fabric, (began o.due ++ [], saw_nothing o, began_rests o.due n), none_astray told)
@@ -77,7 +77,7 @@ users_numbered : (passes : ℕ) → AreUsersNumbered passes []
 users_numbered passes [] is = tt
 users_numbered passes (e ∷ h) is = cc
 
-pub users_seated : {U : Type 0} (told : Type 0) (state : U → DiskState) (p : Token) (t : Gate (SharedUsers U)) (n : ℕ) → p ≡ fresh t.id n → n < t.passes → UsersStand told state t.first [] → IsUserSeated state p t
+pub users_seated : {U : Type 0} (told : Type 0) (state : U → DiskState) (p : Token) (t : TurnstileView (SharedUsers U)) (n : ℕ) → p ≡ fresh t.id n → n < t.passes → UsersStand told state t.first [] → IsUserSeated state p t
 users_seated {U} told state p t n is within b =
     let saw : SawUsers (users_opening state t.first) [] [] = record { marks = []; codes_are = refl; entries_are = refl; history = record { legal = b.legal; paid = b.paid } } in
     subst (λ (q : Token). IsUserSeated state q t) (sym is) ((refl, refl, within, users_numbered t.passes), ([], saw), nothing_rests n)

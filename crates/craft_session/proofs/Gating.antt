@@ -1,11 +1,11 @@
 -- Where commands asked the gate.
 use Rattle.std.specs.Prelude.{replicate}
-use Rattle.std.proofs.Common.{◌≡◌, ◌⊎◌, ◌≤◌, ◌<◌, ℕ, ◌+◌, ◌-◌, arith, length, length-append, List, [], ◌∷◌, ◌++◌, append-nil, refl, sym, ◌∙◌, ap, subst, inl, inr}
+use Rattle.std.proofs.Common.{◌≡◌, ◌⊎◌, ◌≤◌, ◌<◌, ℕ, ◌+◌, ◌-◌, arith, length, length-append, List, [], ◌∷◌, ◌++◌, append-nil, Result, Ok, Err, refl, sym, ◌∙◌, ap, subst, inl, inr}
 use Rattle.std.proofs.lemmas.List.{replicate-append-replicate}
 use Rattle.dxc_outside.specs.declared.gate.GatePlace.{GatePlace}
 use Rattle.dxc_outside.specs.declared.gate.GatePlace.TheVariants.{Journal, Register, Finish}
-use Rattle.dxc_outside.specs.declared.gate.Pass1.{Pass1}
-use Rattle.dxc_outside.specs.declared.gate.Pass1.TheVariants.{Go, Stop}
+use Rattle.dxc_outside.specs.declared.stopped.Stopped.{Stopped}
+use Rattle.dxc_outside.specs.Stops.{the_stop}
 use Rattle.dxc_model.specs.declared.cause.Cause.{Cause}
 use Rattle.dxc_model.specs.declared.cause.Cause.TheVariants.{DiskFault}
 use Rattle.roll_engine.specs.declared.answer.Advance.{Advance}
@@ -15,7 +15,7 @@ use Rattle.dxc_num.specs.declared.register.RegWrite.{RegWrite}
 use Rattle.xc_core.specs.declared.resuming.Reread.TheVariants as reread
 use Rattle.xc_core.specs.Askings.{RereadAsked}
 use Rattle.craft_session.specs.declared.change.Changed.{Changed}
-use Rattle.craft_session.specs.declared.change.Changed.TheVariants.{Done, Denied, Stopped}
+use Rattle.craft_session.specs.declared.change.Changed.TheVariants.{Done, Denied}
 use Rattle.craft_session.specs.declared.mend.Mended.{Mended}
 use Rattle.craft_session.specs.declared.mend.Mended.TheVariants as mended
 use Rattle.craft_session.specs.Askings.{AreMendings, AskedBehind, AskedToStop, ChangeAsked, MendAsked, RollAsked, asked_for, one_mending}
@@ -39,22 +39,22 @@ module _ {X : Type 0} (asked : X → X → List GatePlace → Type 0) (on : (a b
         let sum : (length all - length before) + (length before - length left) ≡ length all - length left = omega (arith, n, within) in
         same_as a c _ _ (replicate-append-replicate (length all - length before) (length before - length left) Register ∙ ap (λ (k : ℕ). replicate k Register) sum) (on a b c _ _ so_far more)
 
-    pub frame_on : (how : Advance) (f : ℕ) → how ≡ advance.InFrame f → asked b c (asked_at before left how) → asked a c (replicate (length all - length left) Register)
-    frame_on how f is more = made_on (subst (λ (x : Advance). asked b c (asked_at before left x)) is more)
+    pub frame_on : (how : Result Advance Stopped) (f : ℕ) → how ≡ Ok (advance.InFrame f) → asked b c (asked_at before left how) → asked a c (replicate (length all - length left) Register)
+    frame_on how f is more = made_on (subst (λ (x : Result Advance Stopped). asked b c (asked_at before left x)) is more)
 
     -- all were made, and the gate was asked at the end
-    pub done_on : (d : X) (how : Advance) → how ≡ advance.Done → left ≡ [] → asked b c (asked_at before left how) → asked c d (Finish ∷ []) → asked a d (asked_for (length all))
+    pub done_on : (d : X) (how : Result Advance Stopped) → how ≡ Ok advance.Done → left ≡ [] → asked b c (asked_at before left how) → asked c d (Finish ∷ []) → asked a d (asked_for (length all))
     done_on d how is none more end =
-        let made = made_on (subst (λ (x : Advance). asked b c (asked_at before left x)) is more) in
+        let made = made_on (subst (λ (x : Result Advance Stopped). asked b c (asked_at before left x)) is more) in
         let zero : length left ≡ 0 = ap length none in
         let whole : length all - length left ≡ length all = omega (arith, zero) in
         on a c d _ _ (same_as a c _ _ (ap (λ (k : ℕ). replicate k Register) whole) made) end
 
     -- the gate stopped before a write
-    pub stopped_on : (how : Advance) → how ≡ advance.Stopped → (left ≡ [] → ⊥) → asked b c (asked_at before left how) → AskedToStop (asked a c) (length all)
+    pub stopped_on : (how : Result Advance Stopped) → how ≡ Err the_stop → (left ≡ [] → ⊥) → asked b c (asked_at before left how) → AskedToStop (asked a c) (length all)
     stopped_on how is some more =
         let n = longer in
-        let here : asked b c (replicate ((length before - length left) + 1) Register) = subst (λ (x : Advance). asked b c (asked_at before left x)) is more in
+        let here : asked b c (replicate ((length before - length left) + 1) Register) = subst (λ (x : Result Advance Stopped). asked b c (asked_at before left x)) is more in
         let less : 0 < length left = not_none left some in
         let sum : (length all - length before) + ((length before - length left) + 1) ≡ (length all - length left) + 1 = omega (arith, n, within) in
         inl (
@@ -72,55 +72,55 @@ module _ {X : Type 0} (asked : X → X → List GatePlace → Type 0) (on : (a b
   stop_behind front writes first next = elim next [ inl x ↦ inl (x.0, x.1, on a b c front _ first x.2) | inr x ↦ inr (on a b c front (asked_for writes) first x) ]
 
   -- a restart whose work was driven
-  pub mended_by : (writes : ℕ) (how : Mended) → asked a b (Journal ∷ []) → ((how ≡ mended.Ready) × RollAsked (asked b c) writes Go) ⊎ ((how ≡ mended.Stopped) × RollAsked (asked b c) writes Stop) → MendAsked (asked a c) how
+  pub mended_by : (writes : ℕ) (how : Result Mended Stopped) → asked a b (Journal ∷ []) → ((how ≡ Ok mended.Ready) × RollAsked (asked b c) writes (Ok tt)) ⊎ ((how ≡ Err the_stop) × RollAsked (asked b c) writes (Err the_stop)) → MendAsked (asked a c) how
   mended_by writes how first next = elim next [
-    | inl x ↦ subst (λ (y : Mended). MendAsked (asked a c) y) (sym x.0) (writes, on a b c (Journal ∷ []) (asked_for writes) first x.1)
-    | inr x ↦ subst (λ (y : Mended). MendAsked (asked a c) y) (sym x.0) (inr (writes, stop_behind (Journal ∷ []) writes first x.1))
+    | inl x ↦ subst (λ (y : Result Mended Stopped). MendAsked (asked a c) y) (sym x.0) (writes, on a b c (Journal ∷ []) (asked_for writes) first x.1)
+    | inr x ↦ subst (λ (y : Result Mended Stopped). MendAsked (asked a c) y) (sym x.0) (inr (writes, stop_behind (Journal ∷ []) writes first x.1))
   ]
 
   -- behind turns in which nothing was asked
-  pub mend_on : (how : Mended) → asked a b [] → MendAsked (asked b c) how → MendAsked (asked a c) how
-  mend_on mended.Ready first x = (x.0, on a b c [] _ first x.1)
-  mend_on (mended.Denied q) first x = elim x [ inl none ↦ inl (on a b c [] [] first none) | inr one ↦ inr (on a b c [] _ first one) ]
-  mend_on mended.Stopped first x = elim x [ inl one ↦ inl (on a b c [] _ first one) | inr y ↦ inr (y.0, elim y.1 [ inl z ↦ inl (z.0, z.1, on a b c [] _ first z.2) | inr z ↦ inr (on a b c [] _ first z) ]) ]
-  mend_on mended.Waits first x = on a b c [] [] first x
+  pub mend_on : (how : Result Mended Stopped) → asked a b [] → MendAsked (asked b c) how → MendAsked (asked a c) how
+  mend_on (Ok mended.Ready) first x = (x.0, on a b c [] _ first x.1)
+  mend_on (Ok (mended.Denied q)) first x = elim x [ inl none ↦ inl (on a b c [] [] first none) | inr one ↦ inr (on a b c [] _ first one) ]
+  mend_on (Err e) first x = elim x [ inl one ↦ inl (on a b c [] _ first one) | inr y ↦ inr (y.0, elim y.1 [ inl z ↦ inl (z.0, z.1, on a b c [] _ first z.2) | inr z ↦ inr (on a b c [] _ first z) ]) ]
+  mend_on (Ok mended.Waits) first x = on a b c [] [] first x
 
   pub nothing_more : (front : List GatePlace) → asked a b front → asked b c [] → asked a c front
   nothing_more front first none = same_as a c _ _ (append-nil front) (on a b c front [] first none)
 
   module _ (front : List GatePlace) (mends : AreMendings front) (first : asked a b front) where
     -- one restart more
-    pub mending_more : (how : Mended) → how ≡ mended.Ready → MendAsked (asked b c) how → (more : List GatePlace) × AreMendings more × asked a c more
+    pub mending_more : (how : Result Mended Stopped) → how ≡ Ok mended.Ready → MendAsked (asked b c) how → (more : List GatePlace) × AreMendings more × asked a c more
     mending_more how is next =
-        let x = subst (λ (y : Mended). MendAsked (asked b c) y) is next in
+        let x = subst (λ (y : Result Mended Stopped). MendAsked (asked b c) y) is next in
         (front ++ (Journal ∷ asked_for x.0), one_mending front x.0 mends, on a b c front (Journal ∷ asked_for x.0) first x.1)
 
-    pub mending_none : (how : Mended) → how ≡ mended.Waits → MendAsked (asked b c) how → (more : List GatePlace) × AreMendings more × asked a c more
-    mending_none how is next = (front, mends, nothing_more front first (subst (λ (y : Mended). MendAsked (asked b c) y) is next))
+    pub mending_none : (how : Result Mended Stopped) → how ≡ Ok mended.Waits → MendAsked (asked b c) how → (more : List GatePlace) × AreMendings more × asked a c more
+    mending_none how is next = (front, mends, nothing_more front first (subst (λ (y : Result Mended Stopped). MendAsked (asked b c) y) is next))
 
-    pub mending_denied : (how : Mended) (q : Cause) → how ≡ mended.Denied q → MendAsked (asked b c) how → ChangeAsked (asked a c) (Denied q)
+    pub mending_denied : (how : Result Mended Stopped) (q : Cause) → how ≡ Ok (mended.Denied q) → MendAsked (asked b c) how → ChangeAsked (asked a c) (Ok (Denied q))
     mending_denied how q is next =
-        (front, mends, elim (subst (λ (y : Mended). MendAsked (asked b c) y) is next) [ inl none ↦ inl (nothing_more front first none) | inr one ↦ inr (on a b c front (Journal ∷ []) first one) ])
+        (front, mends, elim (subst (λ (y : Result Mended Stopped). MendAsked (asked b c) y) is next) [ inl none ↦ inl (nothing_more front first none) | inr one ↦ inr (on a b c front (Journal ∷ []) first one) ])
 
-    pub mending_stopped : (how : Mended) → how ≡ mended.Stopped → MendAsked (asked b c) how → ChangeAsked (asked a c) Stopped
+    pub mending_stopped : (how : Result Mended Stopped) → how ≡ Err the_stop → MendAsked (asked b c) how → ChangeAsked (asked a c) (Err the_stop)
     mending_stopped how is next =
-        (front, mends, elim (subst (λ (y : Mended). MendAsked (asked b c) y) is next) [ inl one ↦ inl (on a b c front (Journal ∷ []) first one) | inr x ↦ inr (x.0, elim x.1 [ inl y ↦ inl (y.0, y.1, on a b c front _ first y.2) | inr y ↦ inr (on a b c front _ first y) ]) ])
+        (front, mends, elim (subst (λ (y : Result Mended Stopped). MendAsked (asked b c) y) is next) [ inl one ↦ inl (on a b c front (Journal ∷ []) first one) | inr x ↦ inr (x.0, elim x.1 [ inl y ↦ inl (y.0, y.1, on a b c front _ first y.2) | inr y ↦ inr (on a b c front _ first y) ]) ])
 
     -- the change's own turn
-    pub denied_asked : (q : Cause) → asked b c [] → ChangeAsked (asked a c) (Denied q)
+    pub denied_asked : (q : Cause) → asked b c [] → ChangeAsked (asked a c) (Ok (Denied q))
     denied_asked q next = (front, mends, inl (nothing_more front first next))
 
     -- and what came of its journal and its work
-    pub carried_asked : (how : Changed) → AskedBehind (asked b c) [] how → ChangeAsked (asked a c) how
-    carried_asked Done x = (front, mends, (x.0, on a b c front (Journal ∷ asked_for x.0) first x.1))
-    carried_asked (Denied q) x = (front, mends, elim x [ inl none ↦ inl (nothing_more front first none) | inr one ↦ inr (on a b c front (Journal ∷ []) first one) ])
-    carried_asked Stopped x = (front, mends, elim x [ inl one ↦ inl (on a b c front (Journal ∷ []) first one) | inr y ↦ inr (y.0, elim y.1 [ inl z ↦ inl (z.0, z.1, on a b c front _ first z.2) | inr z ↦ inr (on a b c front _ first z) ]) ])
+    pub carried_asked : (how : Result Changed Stopped) → AskedBehind (asked b c) [] how → ChangeAsked (asked a c) how
+    carried_asked (Ok Done) x = (front, mends, (x.0, on a b c front (Journal ∷ asked_for x.0) first x.1))
+    carried_asked (Ok (Denied q)) x = (front, mends, elim x [ inl none ↦ inl (nothing_more front first none) | inr one ↦ inr (on a b c front (Journal ∷ []) first one) ])
+    carried_asked (Err e) x = (front, mends, elim x [ inl one ↦ inl (on a b c front (Journal ∷ []) first one) | inr y ↦ inr (y.0, elim y.1 [ inl z ↦ inl (z.0, z.1, on a b c front _ first z.2) | inr z ↦ inr (on a b c front _ first z) ]) ])
 
   -- its work was driven behind the journal
-  pub driven_asked : (writes : ℕ) (how : Changed) → asked a b (Journal ∷ []) → ((how ≡ Done) × RollAsked (asked b c) writes Go) ⊎ ((how ≡ Stopped) × RollAsked (asked b c) writes Stop) → AskedBehind (asked a c) [] how
+  pub driven_asked : (writes : ℕ) (how : Result Changed Stopped) → asked a b (Journal ∷ []) → ((how ≡ Ok Done) × RollAsked (asked b c) writes (Ok tt)) ⊎ ((how ≡ Err the_stop) × RollAsked (asked b c) writes (Err the_stop)) → AskedBehind (asked a c) [] how
   driven_asked writes how first next = elim next [
-    | inl x ↦ subst (λ (y : Changed). AskedBehind (asked a c) [] y) (sym x.0) (writes, on a b c (Journal ∷ []) (asked_for writes) first x.1)
-    | inr x ↦ subst (λ (y : Changed). AskedBehind (asked a c) [] y) (sym x.0) (inr (writes, stop_behind (Journal ∷ []) writes first x.1))
+    | inl x ↦ subst (λ (y : Result Changed Stopped). AskedBehind (asked a c) [] y) (sym x.0) (writes, on a b c (Journal ∷ []) (asked_for writes) first x.1)
+    | inr x ↦ subst (λ (y : Result Changed Stopped). AskedBehind (asked a c) [] y) (sym x.0) (inr (writes, stop_behind (Journal ∷ []) writes first x.1))
   ]
 
 -- nothing was asked yet
@@ -128,16 +128,16 @@ pub none_asked : {X : Type 0} (asked : X → X → List GatePlace → Type 0) �
 none_asked asked unasked a n = let zero : n - n ≡ 0 = omega arith in subst (λ (k : ℕ). asked a a (replicate k Register)) (sym zero) (unasked a)
 
 -- whatever the gate answered at the end
-pub roll_done : (asked : List GatePlace → Type 0) (writes : ℕ) (how : Pass1) → asked (asked_for writes) → RollAsked asked writes how
-roll_done asked writes Go x = x
-roll_done asked writes Stop x = inr x
+pub roll_done : (asked : List GatePlace → Type 0) (writes : ℕ) (how : Result (Unit {0}) Stopped) → asked (asked_for writes) → RollAsked asked writes how
+roll_done asked writes (Ok y) x = x
+roll_done asked writes (Err e) x = inr x
 
 -- a restart that failed: before the gate was asked only by the disk
-pub failed_first : (asked : List GatePlace → Type 0) (q : Cause) → RereadAsked asked (reread.Failed q) → ((q ≡ DiskFault) × asked []) ⊎ asked (Journal ∷ [])
+pub failed_first : (asked : List GatePlace → Type 0) (q : Cause) → RereadAsked asked (Ok (reread.Failed q)) → ((q ≡ DiskFault) × asked []) ⊎ asked (Journal ∷ [])
 failed_first asked DiskFault x = elim x [ inl none ↦ inl (refl, none) | inr one ↦ inr one ]
 failed_first asked _ x = inr x
 
 -- a restart that failed, or at which the gate stopped
-pub failed_asked : (asked : List GatePlace → Type 0) (q : Cause) → RereadAsked asked (reread.Failed q) → asked [] ⊎ asked (Journal ∷ [])
+pub failed_asked : (asked : List GatePlace → Type 0) (q : Cause) → RereadAsked asked (Ok (reread.Failed q)) → asked [] ⊎ asked (Journal ∷ [])
 failed_asked asked DiskFault x = x
 failed_asked asked _ x = inr x

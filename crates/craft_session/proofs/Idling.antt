@@ -1,7 +1,7 @@
 -- One read more of a session in which nothing may come.
 use Rattle.std.proofs.Common.{◌≡◌, ◌<◌, ◌≤◌, ◌+◌, ◌*◌, ℕ, List, [], ◌∷◌, ◌++◌, zero, suc, inl, inr, refl, sym, ap, subst, ◌∙◌, arith}
 use Rattle.std.specs.Prelude.{◌⊎◌, length, replicate, take}
-use Rattle.dxc_causes.specs.Causes.{Counted, last}
+use Rattle.dxc_causes.specs.Causes.{Counted}
 use Rattle.dxc_outside.specs.declared.clock.Moment.{Moment}
 use Rattle.dxc_outside.specs.Items.{Item, byte, bytes, quiet}
 use Rattle.dxc_outside.specs.Links.{LinkState}

@@ -1,5 +1,5 @@
 -- What a unit is told of the program: just what it asks, and what its reply tells.
-use Rattle.std.proofs.Common.{◌≡◌, ◌++◌, ℕ, Bool, true, false, Option, Some, None, List, refl, ap, subst}
+use Rattle.std.proofs.Common.{◌≡◌, ℕ, Bool, true, false, Option, Some, None, List, refl, ap, subst}
 use Rattle.dxc_num.specs.Dimensions.{Dimensions}
 use Rattle.dxc_outside.specs.declared.clock.Moment.{Moment}
 use Rattle.dxc_outside.specs.declared.send.Sent.{Sent}

@@ -12,6 +12,7 @@ pub mod Gated
 pub mod Acted
 pub mod Walking
 pub mod Seating
+pub mod Reading
 pub mod Reporting
 pub mod Ends
 pub mod Consulted

@@ -1,6 +1,6 @@
 -- What a session noted, one step longer.
 use Rattle.std.specs.Prelude.{nat_lt, if◌then◌else◌}
-use Rattle.std.proofs.Common.{◌≡◌, ℕ, Bool, true, false, List, [], ◌∷◌, ◌++◌, length, append-nil, append_assoc, Option, Some, refl, sym, ◌∙◌, ap, subst, inl, inr}
+use Rattle.std.proofs.Common.{◌≡◌, ℕ, Bool, true, false, List, [], ◌++◌, length, append-nil, append_assoc, Option, Some, Result, Ok, Err, refl, sym, ◌∙◌, ap, subst, inl, inr}
 use Rattle.dxc_num.specs.Dimensions.{Dimensions}
 use Rattle.dxc_model.specs.declared.cause.Cause.{Cause}
 use Rattle.dxc_model.specs.declared.cause.Cause.TheVariants.{BadIdentity}
@@ -16,18 +16,19 @@ use Rattle.dxc_outside.specs.declared.link.Got.{Got}
 use Rattle.dxc_outside.specs.Links.{IsRead, LinkState}
 use Rattle.dxc_outside.specs.declared.send.Sent.{Sent}
 use Rattle.dxc_outside.specs.declared.send.Sent.TheVariants.{Whole as Sent_whole, Cut as Sent_cut}
+use Rattle.dxc_outside.specs.declared.stopped.Stopped.{Stopped}
 use Rattle.tl1_text.specs.Units.{Input}
 use Rattle.shelf_file.specs.Contents.{Contents}
 use Rattle.tl1_command.specs.Meanings.{Asked, acts, cancels, header, allows, inhibits, shows, asks_table}
-use Rattle.user_admin.specs.declared.op.UserOp.{UserOp}
+use Rattle.tl1_users.specs.declared.op.UserOp.{UserOp}
 use Rattle.user_admin.specs.declared.op.UserRow.{UserRow}
-use Rattle.user_admin.specs.Commands.{is_not_logged_in}
+use Rattle.tl1_users.specs.Commands.{is_not_logged_in}
 use Rattle.xc_core.specs.Seeing.{Saw}
 use Rattle.craft_session.specs.declared.ask.Ask.{Ask}
 use Rattle.craft_session.specs.declared.ask.Ask.TheVariants.{Refused, LogsIn, LogsOut, Completes, Allows, Inhibits, Lists, Shows, Restarts, Changes}
 use Rattle.craft_session.specs.declared.attending.Attending.{Attending}
 use Rattle.craft_session.specs.declared.end.Progress.{Progress}
-use Rattle.craft_session.specs.declared.end.Progress.TheVariants.{On, Cut, Stopped}
+use Rattle.craft_session.specs.declared.end.Progress.TheVariants.{On, Cut}
 use Rattle.craft_session.specs.Acting.{Acts, Stops}
 use Rattle.craft_session.specs.Asks.{Reply, user_after}
 use Rattle.craft_session.specs.Desks.{IsReplied, IsSaidOf, IsStoppedBefore}
@@ -65,17 +66,17 @@ module _ (s : Contents) (t : Telling) where
 
   module _ (b c : Stood) (noted : List Note → Type 0) where
     -- one unit
-    pub noted_unit : (u : Input) (how : Progress) (x : IsUnit s t b u how c) → noted (unit_notes s t how b u c x) → HasNoted s t b c noted
+    pub noted_unit : (u : Input) (how : Result Progress Stopped) (x : IsUnit s t b u how c) → noted (unit_notes s t how b u c x) → HasNoted s t b c noted
     noted_unit u how x were = record { notes = unit_notes s t how b u c x; are = notes_on b b c [] u how (no_notes b) x; were = were }
 
     -- of which a response was written, or a part of it
     pub noted_said : (u : Input) (sent : Sent) (seat : IsSameSeat b.seat c.seat) (users : IsSameUserSeat b.users c.users) (x : IsSaidOf s t.told t.clock_told b.link c.link b.coming c.coming sent u b.seat b.users (now_in b) (now_in c)) → noted (said_notes s t sent b u c x) → HasNoted s t b c noted
-    noted_said u Sent_whole seat users x were = noted_unit u On (record { seat = seat; users = users; answered = x }) were
-    noted_said u Sent_cut seat users x were = noted_unit u Cut (record { seat = seat; users = users; answered = x }) were
+    noted_said u Sent_whole seat users x were = noted_unit u (Ok On) (record { seat = seat; users = users; answered = x }) were
+    noted_said u Sent_cut seat users x were = noted_unit u (Ok Cut) (record { seat = seat; users = users; answered = x }) were
 
     -- which a stop cut at the users
-    pub noted_stop : (u : Input) (seat : IsSameSeat b.seat c.seat) (users : IsSameUserSeat b.users c.users) → c.link ≡ b.link → c.coming ≡ b.coming → IsStoppedBefore s u b.users (now_in b) (now_in c) → noted [] → HasNoted s t b c noted
-    noted_stop u seat users link clock x were = noted_unit u Stopped (record { seat = seat; users = users; answered = record { link = link; clock = clock; stopped = inr x } }) were
+    pub noted_stop : (e : Stopped) (u : Input) (seat : IsSameSeat b.seat c.seat) (users : IsSameUserSeat b.users c.users) → c.link ≡ b.link → c.coming ≡ b.coming → IsStoppedBefore s u b.users (now_in b) (now_in c) → noted [] → HasNoted s t b c noted
+    noted_stop e u seat users link clock x were = noted_unit u (Err e) (record { seat = seat; users = users; answered = record { link = link; clock = clock; stopped = inr x } }) were
 
   -- a part in which nothing is noted
   pub noted_beside : (a b c : Stood) (noted : List Note → Type 0) → HasNoted s t a b noted → IsBeside t.told b c → HasNoted s t a c noted
@@ -122,8 +123,8 @@ noted_so noted w d e now user tag own a b r shape_is now_is tag_is ask_is x =
     subst noted (first ∙ ap (λ (l : List Note). users_notes user own w a ++ l) (notes_behind e user own a r) ∙ ap (λ (y : Ask). users_notes user own w y ++ notes_of e user own y r) ask_is) x
 
 -- a unit that wants nothing of the users
-pub noted_nothing : (noted : List Note → Type 0) (user : SessionUser) (tag : Option (List ℕ)) (w : Wanted) (a : Ask) → w ≡ nothing → noted [] → UsersNoted noted user tag w (Some a)
-noted_nothing noted user tag w a is none = subst (λ (x : Wanted). UsersNoted noted user tag x (Some a)) (sym is) none
+pub noted_nothing : (noted : List Note → Type 0) (user : SessionUser) (tag : Option (List ℕ)) (w : Wanted) (a : Ask) → w ≡ nothing → noted [] → UsersNoted noted user tag w (Ok a)
+noted_nothing noted user tag w a is none = subst (λ (x : Wanted). UsersNoted noted user tag x (Ok a)) (sym is) none
 
 -- one of the session's commands changes no users
 login_none : (user : SessionUser) (tag : Option (List ℕ)) (vacant : Bool) (uid pid : List ℕ) (a : Ask) (long : Bool) → users_notes user tag (if long then nothing else to_look vacant uid pid) a ≡ []
@@ -139,7 +140,7 @@ session_none user tag inhibits a = refl
 session_none user tag (shows subject) a = refl
 session_none user tag (asks_table o) a = refl
 
-pub noted_session : (noted : List Note → Type 0) (user : SessionUser) (tag : Option (List ℕ)) (x : Asked) (a : Ask) → noted [] → UsersNoted noted user tag (session_wants user x) (Some a)
+pub noted_session : (noted : List Note → Type 0) (user : SessionUser) (tag : Option (List ℕ)) (x : Asked) (a : Ask) → noted [] → UsersNoted noted user tag (session_wants user x) (Ok a)
 noted_session noted user tag x a none = subst noted (sym (session_none user tag x a)) none
 
 -- what came of an operation on the users
@@ -163,10 +164,10 @@ module _ (s : Contents) (t : Telling) (b c : Stood) (noted : List Note → Type 
       (noted_so noted (wants s b.attending.user u) d s.shape now b.attending.user tag (tag_of u) a (asks s b.attending.user y.heard u) r shape_is now_is tag_is y.ask_is were)
 
   -- one that a stop cut at the table
-  pub noted_cut : (a : Ask) (rows : List UserRow) (gate : List GatePlace → Type 0) (y : IsAsked b.users (wants s b.attending.user u) (λ h. asks s b.attending.user h u) a rows after.users gate) (tag : Option (List ℕ)) → tag ≡ tag_of u → c.link ≡ b.link → c.coming ≡ b.coming
+  pub noted_cut : (e : Stopped) (a : Ask) (rows : List UserRow) (gate : List GatePlace → Type 0) (y : IsAsked b.users (wants s b.attending.user u) (λ h. asks s b.attending.user h u) a rows after.users gate) (tag : Option (List ℕ)) → tag ≡ tag_of u → c.link ≡ b.link → c.coming ≡ b.coming
       → ((h : List Entry) → Saw b.seat.opening b.seat.seen h → Stops b.seat.opening b.seat.place h b.attending a after.attending after.seen) → noted (users_notes b.attending.user tag (wants s b.attending.user u) a) → HasNoted s t b c noted
-  noted_cut a rows gate y tag tag_is link clock stops were =
-      noted_unit s t b c noted u Stopped (record {
+  noted_cut e a rows gate y tag tag_is link clock stops were =
+      noted_unit s t b c noted u (Err e) (record {
         seat = seat;
         users = users;
         answered = record {

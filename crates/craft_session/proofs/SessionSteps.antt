@@ -1,11 +1,12 @@
 -- How a session goes on.
 use Rattle.std.specs.Prelude.{is_some, min}
-use Rattle.std.proofs.Common.{◌≡◌, ℕ, ◌+◌, ◌≤◌, Bool, true, false, length, List, [], ◌∷◌, ◌++◌, Option, Some, None, take, drop, inl, inr, refl, sym, ◌∙◌, ap, ap₂, subst, arith, append_assoc, take-append-drop}
+use Rattle.std.proofs.Common.{◌≡◌, ℕ, ◌+◌, ◌≤◌, Bool, true, false, length, List, [], ◌∷◌, ◌++◌, Option, Some, None, Result, Ok, Err, take, drop, inl, inr, refl, sym, ◌∙◌, ap, ap₂, subst, arith, append_assoc, take-append-drop}
 use Rattle.std.proofs.lemmas.List.{append-nil, map-append, drop-drop}
 use base.Stored.{Gv}
 use Rattle.dxc_causes.specs.Causes.{Counted}
 use Rattle.dxc_outside.specs.declared.link.Got.{Got}
 use Rattle.dxc_outside.specs.declared.link.Got.TheVariants.{Bytes, Quiet}
+use Rattle.dxc_outside.specs.declared.stopped.Stopped.{Stopped}
 use Rattle.dxc_outside.specs.declared.send.Sent.{Sent}
 use Rattle.dxc_outside.specs.declared.send.Sent.TheVariants.{Whole, Cut as Sent_cut}
 use Rattle.dxc_outside.specs.declared.clock.Moment.{Moment}
@@ -24,7 +25,7 @@ use Rattle.tl1_text.specs.Units.{IsUnit, IsRest, whole, too_long}
 use Rattle.tl1_text.specs.Reading.{Reader, Made, IsFed, hand, Holds}
 use Rattle.tl1_text.proofs.Steps.{holds_none, rest_of}
 use Rattle.user_admin.specs.declared.op.UserEntry.{UserEntry}
-use Rattle.user_admin.specs.declared.op.UserOp.{UserOp}
+use Rattle.tl1_users.specs.declared.op.UserOp.{UserOp}
 use Rattle.user_admin.specs.Turns.{Saw as SawUsers, TurnedBack}
 use Rattle.user_admin.specs.Verdicts.{IsChanging}
 use Rattle.dxc_model.specs.declared.user.SessionUser.{SessionUser}
@@ -35,7 +36,7 @@ use Rattle.xc_core.proofs.Turning.{changes_longer}
 use Rattle.dbchg_reports.specs.Recent.{SinceIs, recent_of}
 use Rattle.craft_session.specs.declared.attending.Attending.{Attending}
 use Rattle.craft_session.specs.declared.end.Progress.{Progress}
-use Rattle.craft_session.specs.declared.end.Progress.TheVariants.{On, Cut, Stopped}
+use Rattle.craft_session.specs.declared.end.Progress.TheVariants.{On, Cut}
 use Rattle.craft_session.specs.Acting.{Acts, Stops}
 use Rattle.craft_session.specs.Asks.{Reply, Language, user_after}
 use Rattle.craft_session.specs.Consulting.{consults_none}
@@ -378,20 +379,20 @@ module _ (l : Language Request Moment) (told clock_told : Type 0) (k : LinkState
         subst (λ (x : List ℕ). Stands l told clock_told k j c d b now false fed.unit r2 x) (drop-drop fed.taken at piece)
         (stands_fed (drop at piece) fed r2 s (λ bs h. subst (λ (x : List ℕ). IsFed bs x fed r2) is (feeds bs h)))
 
-    pub goes_on_is : (how : Progress) (ahead : List ℕ) → how ≡ On → Goes l told clock_told k j c d b now how false r ahead → Stands l told clock_told k j c d b now false More r ahead
-    goes_on_is how ahead is goes = subst (λ (x : Progress). Goes l told clock_told k j c d b now x false r ahead) is goes
+    pub goes_on_is : (how : Result Progress Stopped) (ahead : List ℕ) → how ≡ Ok On → Goes l told clock_told k j c d b now how false r ahead → Stands l told clock_told k j c d b now false More r ahead
+    goes_on_is how ahead is goes = subst (λ (x : Result Progress Stopped). Goes l told clock_told k j c d b now x false r ahead) is goes
 
-    pub goes_cut_is : (how : Progress) (due : Bool) (ahead : List ℕ) → how ≡ Cut → Goes l told clock_told k j c d b now how due r ahead → Breaks l told clock_told k j c d b now
-    goes_cut_is how due ahead is goes = subst (λ (x : Progress). Goes l told clock_told k j c d b now x due r ahead) is goes
+    pub goes_cut_is : (how : Result Progress Stopped) (due : Bool) (ahead : List ℕ) → how ≡ Ok Cut → Goes l told clock_told k j c d b now how due r ahead → Breaks l told clock_told k j c d b now
+    goes_cut_is how due ahead is goes = subst (λ (x : Result Progress Stopped). Goes l told clock_told k j c d b now x due r ahead) is goes
 
-    pub goes_stopped_is : (how : Progress) (due : Bool) (ahead : List ℕ) → how ≡ Stopped → Goes l told clock_told k j c d b now how due r ahead → Halts l told clock_told k j c d b now
-    goes_stopped_is how due ahead is goes = subst (λ (x : Progress). Goes l told clock_told k j c d b now x due r ahead) is goes
+    pub goes_stopped_is : (how : Result Progress Stopped) (e : Stopped) (due : Bool) (ahead : List ℕ) → how ≡ Err e → Goes l told clock_told k j c d b now how due r ahead → Halts l told clock_told k j c d b now
+    goes_stopped_is how e due ahead is goes = subst (λ (x : Result Progress Stopped). Goes l told clock_told k j c d b now x due r ahead) is goes
 
     -- a session that was ended stands so, whatever the reader holds
-    pub goes_ended_is : (how : Progress) (due due2 : Bool) (r2 : Reader) (ahead more : List ℕ) → (how ≡ On → ⊥) → Goes l told clock_told k j c d b now how due r ahead → Goes l told clock_told k j c d b now how due2 r2 more
-    goes_ended_is On due due2 r2 ahead more not goes = absurd (not refl)
-    goes_ended_is Cut due due2 r2 ahead more not goes = goes
-    goes_ended_is Stopped due due2 r2 ahead more not goes = goes
+    pub goes_ended_is : (how : Result Progress Stopped) (due due2 : Bool) (r2 : Reader) (ahead more : List ℕ) → (how ≡ Ok On → ⊥) → Goes l told clock_told k j c d b now how due r ahead → Goes l told clock_told k j c d b now how due2 r2 more
+    goes_ended_is (Ok On) due due2 r2 ahead more not goes = absurd (not refl)
+    goes_ended_is (Ok Cut) due due2 r2 ahead more not goes = goes
+    goes_ended_is (Err e) due due2 r2 ahead more not goes = goes
 
     -- the session ended here
     abbrev pub served_here : Stands l told clock_told k j c d b now false More r [] → Served l told clock_told k j c d b now
@@ -476,9 +477,9 @@ module _ (l : Language Request Moment) (told clock_told : Type 0) (k : LinkState
         past = past_look_cut l clock_told c b d now due_now.items due_now.rest due_now.out past_now cursor watch looked given seen look_now (x.taken ++ x.untaken) x.bytes x.reported (rest_of due_now.made) d2 x.taken x.untaken refl x.gave x.wrote.part x.wrote.rest x.wrote.split;
       }
 
-      pub goes_told : (sent : Sent) (how : Progress) → how ≡ progress_of sent → AreTold l told clock_told j j2 d d2 sent (found_notices looked.since looked.newest given) → Goes l told clock_told k j2 c d2 b looked_now how false r ahead
-      goes_told Whole how is x = subst (λ (y : Progress). Goes l told clock_told k j2 c d2 b looked_now y false r ahead) (sym is) (stands_told (told_here Whole x))
-      goes_told Sent_cut how is x = subst (λ (y : Progress). Goes l told clock_told k j2 c d2 b looked_now y false r ahead) (sym is) (breaks_told (told_here Sent_cut x))
+      pub goes_told : (sent : Sent) (how : Progress) → how ≡ progress_of sent → AreTold l told clock_told j j2 d d2 sent (found_notices looked.since looked.newest given) → Goes l told clock_told k j2 c d2 b looked_now (Ok how) false r ahead
+      goes_told Whole how is x = subst (λ (y : Progress). Goes l told clock_told k j2 c d2 b looked_now (Ok y) false r ahead) (sym is) (stands_told (told_here Whole x))
+      goes_told Sent_cut how is x = subst (λ (y : Progress). Goes l told clock_told k j2 c d2 b looked_now (Ok y) false r ahead) (sym is) (breaks_told (told_here Sent_cut x))
 
       -- each byte of the reports was written in its time
       pub looked_in_time : (stamped : Stamp → Type 0) (seat : SeatAt) (users : UserSeatAt) (sent : Sent) → AreTold l told clock_told j j2 d d2 sent (found_notices looked.since looked.newest given) → IsAt b seat users → seat.seen ≡ seen → users.seen ≡ now.users

@@ -1,21 +1,19 @@
 -- One read more of a session in which nobody may be logged in.
-use Rattle.std.proofs.Common.{◌≡◌, ◌≢◌, ◌<◌, ◌≤◌, ◌+◌, ◌*◌, ℕ, List, [], zero, inl, inr, false, suc, refl, sym, ◌∙◌, subst, arith}
+use Rattle.std.proofs.Common.{◌≡◌, ◌<◌, ◌≤◌, ◌+◌, ◌*◌, ℕ, List, [], zero, inl, inr, false, suc, refl, sym, ◌∙◌, subst, arith}
 use Rattle.std.specs.Prelude.{min}
 use Rattle.std.proofs.Math.Nat.{eq-or-lt_of_le}
-use Rattle.dxc_causes.specs.Causes.{Counted, last}
+use Rattle.dxc_causes.specs.Causes.{Counted}
 use Rattle.dxc_outside.specs.declared.clock.Moment.{Moment}
 use Rattle.dxc_outside.specs.Links.{LinkState}
 use Rattle.dxc_model.specs.declared.user.SessionUser.{SessionUser}
 use Rattle.dxc_model.specs.declared.user.SessionUser.TheVariants.{Nobody, User}
 use Rattle.tl1_text.specs.declared.reader.UnitKind.TheVariants.{More}
 use Rattle.tl1_text.specs.Reading.{Reader}
-use Rattle.user_admin.specs.Turns.{Saw as SawUsers}
-use Rattle.xc_core.specs.Seeing.{Saw}
 use Rattle.craft_session.specs.declared.patience.Patience.TheVariants.{Endless, Limited}
 use Rattle.craft_session.specs.Asks.{Language}
 use Rattle.craft_session.specs.Happenings.{Request}
 use Rattle.craft_session.specs.Seats.{SeatAt, UserSeatAt}
-use Rattle.craft_session.specs.Sessions.{Beginning, IsAt, Now, Stands}
+use Rattle.craft_session.specs.Sessions.{Now, Stands}
 use Rattle.craft_session.specs.Waiting.{ForEach, IsLetGoBy, WasAlone, WasUnattended, waited_after}
 use Rattle.craft_session.proofs.SessionSteps.{served_here}
 

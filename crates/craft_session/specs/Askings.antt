@@ -1,11 +1,10 @@
 -- Where the commands of a session asked the gate.
-use Rattle.std.specs.Prelude.{◌⊎◌, ◌<◌, ℕ, ◌+◌, List, [], ◌∷◌, ◌++◌, replicate}
+use Rattle.std.specs.Prelude.{◌⊎◌, ◌<◌, ℕ, ◌+◌, List, [], ◌∷◌, ◌++◌, replicate, Result, Ok, Err}
 use Rattle.dxc_outside.specs.declared.gate.GatePlace.{GatePlace}
 use Rattle.dxc_outside.specs.declared.gate.GatePlace.TheVariants.{Journal, Register, Finish}
-use Rattle.dxc_outside.specs.declared.gate.Pass1.{Pass1}
-use Rattle.dxc_outside.specs.declared.gate.Pass1.TheVariants.{Go, Stop}
+use Rattle.dxc_outside.specs.declared.stopped.Stopped.{Stopped}
 use Rattle.craft_session.specs.declared.change.Changed.{Changed}
-use Rattle.craft_session.specs.declared.change.Changed.TheVariants.{Done, Denied, Stopped}
+use Rattle.craft_session.specs.declared.change.Changed.TheVariants.{Done, Denied}
 use Rattle.craft_session.specs.declared.mend.Mended.{Mended}
 use Rattle.craft_session.specs.declared.mend.Mended.TheVariants as mended
 
@@ -17,20 +16,20 @@ asked_for writes = replicate writes Register ++ Finish ∷ []
 abbrev pub AskedToStop : (List GatePlace → Type 0) → ℕ → Type 0
 AskedToStop asked writes = ((made : ℕ) × (made < writes) × asked (replicate (made + 1) Register)) ⊎ asked (asked_for writes)
 
-abbrev pub RollAsked : (List GatePlace → Type 0) → ℕ → Pass1 → Type 0
-RollAsked asked writes Go = asked (asked_for writes)
-RollAsked asked writes Stop = AskedToStop asked writes
+abbrev pub RollAsked : (List GatePlace → Type 0) → ℕ → Result (Unit {0}) Stopped → Type 0
+RollAsked asked writes (Ok x) = asked (asked_for writes)
+RollAsked asked writes (Err e) = AskedToStop asked writes
 
 -- the same where the journal was called before
 abbrev pub behind_journal : (List GatePlace → Type 0) → List GatePlace → Type 0
 behind_journal asked places = asked (Journal ∷ places)
 
 -- a restart: before the journal is read again, and for the rest of its last work
-abbrev pub MendAsked : (List GatePlace → Type 0) → Mended → Type 0
-MendAsked asked mended.Ready = (writes : ℕ) × behind_journal asked (asked_for writes)
-MendAsked asked (mended.Denied q) = asked [] ⊎ asked (Journal ∷ [])
-MendAsked asked mended.Stopped = asked (Journal ∷ []) ⊎ ((writes : ℕ) × AskedToStop (behind_journal asked) writes)
-MendAsked asked mended.Waits = asked []
+abbrev pub MendAsked : (List GatePlace → Type 0) → Result Mended Stopped → Type 0
+MendAsked asked (Ok mended.Ready) = (writes : ℕ) × behind_journal asked (asked_for writes)
+MendAsked asked (Ok (mended.Denied q)) = asked [] ⊎ asked (Journal ∷ [])
+MendAsked asked (Err e) = asked (Journal ∷ []) ⊎ ((writes : ℕ) × AskedToStop (behind_journal asked) writes)
+MendAsked asked (Ok mended.Waits) = asked []
 
 -- restarts that were made
 pub data AreMendings : List GatePlace → Type 0 where
@@ -38,16 +37,16 @@ pub data AreMendings : List GatePlace → Type 0 where
   one_mending : (before : List GatePlace) (writes : ℕ) → AreMendings before → AreMendings (before ++ (Journal ∷ asked_for writes))
 
 -- a change, behind restarts that were due: before its record is appended, and for its work
-abbrev pub AskedBehind : (List GatePlace → Type 0) → List GatePlace → Changed → Type 0
-AskedBehind asked front Done = (writes : ℕ) × asked (front ++ (Journal ∷ asked_for writes))
-AskedBehind asked front (Denied q) = asked front ⊎ asked (front ++ (Journal ∷ []))
-AskedBehind asked front Stopped = asked (front ++ (Journal ∷ [])) ⊎ ((writes : ℕ) × AskedToStop (λ places. asked (front ++ (Journal ∷ places))) writes)
+abbrev pub AskedBehind : (List GatePlace → Type 0) → List GatePlace → Result Changed Stopped → Type 0
+AskedBehind asked front (Ok Done) = (writes : ℕ) × asked (front ++ (Journal ∷ asked_for writes))
+AskedBehind asked front (Ok (Denied q)) = asked front ⊎ asked (front ++ (Journal ∷ []))
+AskedBehind asked front (Err e) = asked (front ++ (Journal ∷ [])) ⊎ ((writes : ℕ) × AskedToStop (λ places. asked (front ++ (Journal ∷ places))) writes)
 
-abbrev pub ChangeAsked : (List GatePlace → Type 0) → Changed → Type 0
+abbrev pub ChangeAsked : (List GatePlace → Type 0) → Result Changed Stopped → Type 0
 ChangeAsked asked how = (front : List GatePlace) × AreMendings front × AskedBehind asked front how
 
 -- INIT-SYS
-abbrev pub WarmAsked : (List GatePlace → Type 0) → Changed → Type 0
-WarmAsked asked Done = MendAsked asked mended.Ready
-WarmAsked asked (Denied q) = MendAsked asked (mended.Denied q)
-WarmAsked asked Stopped = MendAsked asked mended.Stopped
+abbrev pub WarmAsked : (List GatePlace → Type 0) → Result Changed Stopped → Type 0
+WarmAsked asked (Ok Done) = MendAsked asked (Ok mended.Ready)
+WarmAsked asked (Ok (Denied q)) = MendAsked asked (Ok (mended.Denied q))
+WarmAsked asked (Err e) = MendAsked asked (Err e)

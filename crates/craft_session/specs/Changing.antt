@@ -1,7 +1,8 @@
 -- A changing command of a session, and a restart, by the entries that they make.
-use Rattle.std.specs.Prelude.{◌⊎◌, ℕ, List, [], ◌∷◌, ◌++◌, Option}
+use Rattle.std.specs.Prelude.{◌⊎◌, ℕ, List, [], ◌∷◌, ◌++◌, Option, Result, Ok, Err}
 use base.Stored.{Gv}
 use Rattle.turnstile.specs.Turning.{Each}
+use Rattle.dxc_outside.specs.declared.stopped.Stopped.{Stopped}
 use Rattle.dxc_model.specs.declared.op.Op.{Op}
 use Rattle.dxc_model.specs.declared.op.Op.TheVariants.{Restart}
 use Rattle.dxc_model.specs.declared.op.Change.{Change as TableChange}
@@ -12,7 +13,7 @@ use Rattle.dxc_model.specs.Histories.{IsRestartDue, IsStopped}
 use Rattle.xc_core.specs.States.{Opening}
 use Rattle.xc_core.specs.Seeing.{IsDueFor, IsOfStop, Saw, entry, refused}
 use Rattle.craft_session.specs.declared.change.Changed.{Changed}
-use Rattle.craft_session.specs.declared.change.Changed.TheVariants.{Done, Denied, Stopped}
+use Rattle.craft_session.specs.declared.change.Changed.TheVariants.{Done, Denied}
 use Rattle.craft_session.specs.declared.mend.Mended.{Mended}
 use Rattle.craft_session.specs.declared.mend.Mended.TheVariants as mended
 use Rattle.craft_session.specs.Walks.{IsChangeAt, IsUnused, Mends}
@@ -42,21 +43,21 @@ pub record MendedBy (o : Opening) (place : ℕ) (h : List Entry) (then_seen : Li
   pub saw : Saw o then_seen (h ++ front)
 
 -- what came of the command
-abbrev pub ChangedIs : Opening → ℕ → List Entry → Op → List Gv → Changed → Type 0
-ChangedIs o place h op then_seen Done = (c : TableChange) × (m : MendedTo o place h (entry place op (outcome.Done c)) then_seen) × IsChangeAt (h ++ m.front) (outcome.Done c)
-ChangedIs o place h op then_seen (Denied q) = (m : MendedTo o place h (entry place op (refused q)) then_seen) × IsChangeAt (h ++ m.front) (refused q)
-ChangedIs o place h op then_seen Stopped =
+abbrev pub ChangedIs : Opening → ℕ → List Entry → Op → List Gv → Result Changed Stopped → Type 0
+ChangedIs o place h op then_seen (Ok Done) = (c : TableChange) × (m : MendedTo o place h (entry place op (outcome.Done c)) then_seen) × IsChangeAt (h ++ m.front) (outcome.Done c)
+ChangedIs o place h op then_seen (Ok (Denied q)) = (m : MendedTo o place h (entry place op (refused q)) then_seen) × IsChangeAt (h ++ m.front) (refused q)
+ChangedIs o place h op then_seen (Err e) =
     ((m : MendedTo o place h (entry place op outcome.Cut) then_seen) × (IsStopped (h ++ m.front) → ⊥)) ⊎ ((m : MendedTo o place h (entry place Restart outcome.Cut) then_seen) × IsRestartDue (h ++ m.front))
 
 -- what came of turns in which a restart was to be made for what was asked
-abbrev pub MendedIs : Opening → ℕ → List Entry → Op → List Gv → Mended → Type 0
-MendedIs o place h asked then_seen mended.Ready = (c : Option TableChange) × (p : Passed o place h (entry place Restart (outcome.Restarted c)) then_seen) × IsDueFor asked (h ++ p.passed) × IsOfStop c (h ++ p.passed)
-MendedIs o place h asked then_seen (mended.Denied q) = (p : Passed o place h (entry place asked (outcome.Failed q)) then_seen) × IsFault q × IsDueFor asked (h ++ p.passed)
-MendedIs o place h asked then_seen mended.Stopped = (p : Passed o place h (entry place Restart outcome.Cut) then_seen) × IsDueFor asked (h ++ p.passed)
-MendedIs o place h asked then_seen mended.Waits = PassedBy o place h then_seen
+abbrev pub MendedIs : Opening → ℕ → List Entry → Op → List Gv → Result Mended Stopped → Type 0
+MendedIs o place h asked then_seen (Ok mended.Ready) = (c : Option TableChange) × (p : Passed o place h (entry place Restart (outcome.Restarted c)) then_seen) × IsDueFor asked (h ++ p.passed) × IsOfStop c (h ++ p.passed)
+MendedIs o place h asked then_seen (Ok (mended.Denied q)) = (p : Passed o place h (entry place asked (outcome.Failed q)) then_seen) × IsFault q × IsDueFor asked (h ++ p.passed)
+MendedIs o place h asked then_seen (Err e) = (p : Passed o place h (entry place Restart outcome.Cut) then_seen) × IsDueFor asked (h ++ p.passed)
+MendedIs o place h asked then_seen (Ok mended.Waits) = PassedBy o place h then_seen
 
 -- what came of a restart that was asked for, which takes up a change only where a stop came
-abbrev pub WarmRestartIs : Opening → ℕ → List Entry → List Gv → Changed → Type 0
-WarmRestartIs o place h then_seen Done = (c : Option TableChange) × (p : Passed o place h (entry place Restart (outcome.Restarted c)) then_seen) × IsOfStop c (h ++ p.passed)
-WarmRestartIs o place h then_seen (Denied q) = Passed o place h (entry place Restart (outcome.Failed q)) then_seen
-WarmRestartIs o place h then_seen Stopped = Passed o place h (entry place Restart outcome.Cut) then_seen
+abbrev pub WarmRestartIs : Opening → ℕ → List Entry → List Gv → Result Changed Stopped → Type 0
+WarmRestartIs o place h then_seen (Ok Done) = (c : Option TableChange) × (p : Passed o place h (entry place Restart (outcome.Restarted c)) then_seen) × IsOfStop c (h ++ p.passed)
+WarmRestartIs o place h then_seen (Ok (Denied q)) = Passed o place h (entry place Restart (outcome.Failed q)) then_seen
+WarmRestartIs o place h then_seen (Err e) = Passed o place h (entry place Restart outcome.Cut) then_seen

@@ -17,7 +17,7 @@ use Rattle.roll_plan.specs.declared.op.LegOp.{LegOp}
 use Rattle.roll_plan.specs.Works.{ops_writes}
 use Rattle.user_admin.specs.declared.op.UserChange.{UserChange}
 use Rattle.user_admin.specs.declared.op.UserEntry.{UserEntry}
-use Rattle.user_admin.specs.declared.op.UserOp.{UserOp}
+use Rattle.tl1_users.specs.declared.op.UserOp.{UserOp}
 use Rattle.user_admin.specs.declared.op.UserOutcome.{UserOutcome}
 use Rattle.user_admin.specs.declared.op.UserOutcome.TheVariants as user_outcome
 use Rattle.user_admin.specs.Histories.{IsReading, Opening as UsersOpening}
@@ -30,7 +30,7 @@ use Rattle.xc_core.specs.States.{Opening}
 use Rattle.craft_session.specs.Askings.{asked_for}
 use Rattle.craft_session.specs.Seats.{SeatAt, UserSeatAt}
 
--- At h the place has the Provisioner out for this operation: behind the history at which it took it stand others' entries alone.
+-- At h the place has the Provisioner out for this operation: after the history at which it took it stand others' entries alone.
 pub record IsOutFor (place : ℕ) (op : Op) (h : List Entry) : Type 0 where
   pub taken : List Entry
   pub later : List Entry
@@ -53,7 +53,7 @@ pub record IsWorkOf (o : Opening) (place : ℕ) (op : Op) (h : List Entry) (writ
 abbrev pub IsOfWork : Opening → ℕ → Op → List Entry → ℕ → Type 0
 IsOfWork o place op h writes = ((op ≡ Restart) × IsOutFor place Restart h) ⊎ IsWorkOf o place op h writes
 
--- Entries behind h, and where the place asked its gate for its own, in this order. Whether it has the Provisioner out is told before them and behind
+-- Entries after h, and where the place asked its gate for its own, in this order. Whether it has the Provisioner out is told before them and after
 -- them: all that is asked is asked while it has, before the journal is called and for the work. No turn asks. Only a restart fails before it
 -- is asked, by the disk.
 pub data IsGated (o : Opening) (place : ℕ) : List Entry → Bool → List Entry → List GatePlace → Bool → Type 0 where
@@ -82,7 +82,7 @@ pub data IsUserGated (place : ℕ) : List UserEntry → List GatePlace → Type 
   users_denied : (op : UserOp) (q : Cause) (es : List UserEntry) → Each (λ e. e.place ≢ place) es → IsUserGated place (es ++ user_entry place op (user_refused q) ∷ []) (users_asked_before q)
   users_stopped : (es : List UserEntry) → Each (λ e. e.place ≢ place) es → IsUserGated place es (Journal ∷ [])
 
--- turn by turn, at the state, behind h, and at the users
+-- turn by turn, at the state, after h, and at the users
 pub data AreGated (o : Opening) (place users_place : ℕ) : List Entry → List Entry → List UserEntry → List GatePlace → Type 0 where
   at_state : (h es : List Entry) (ps : List GatePlace) → IsGated o place h false es ps false → AreGated o place users_place h es [] ps
   at_users : (h : List Entry) (us : List UserEntry) (ps : List GatePlace) → IsUserGated users_place us ps → AreGated o place users_place h [] us ps
@@ -91,7 +91,7 @@ pub data AreGated (o : Opening) (place users_place : ℕ) : List Entry → List 
 abbrev pub NothingAsked : List GatePlace → Type 0
 NothingAsked places = places ≡ []
 
--- behind the history the place has seen such entries since, and its gate was asked there for them
+-- after the history the place has seen such entries since, and its gate was asked there for them
 pub record Entered (o : Opening) (place : ℕ) (asked : List GatePlace → Type 0) (out then_out : Bool) (h : List Entry) (then_seen : List Gv) : Type 0 where
   pub entries : List Entry
   pub saw : Saw o then_seen (h ++ entries)
@@ -115,10 +115,14 @@ pub record BothEntered (o : Opening) (users : UsersOpening) (place users_place :
   pub were : asked places
   pub gated : AreGated o place users_place h entries users_entries places
 
--- behind what a seat at the users had seen
+-- after what a seat at the state had seen, whose place hasn't got the Provisioner out, before or then
+abbrev pub AreStateEntered : SeatAt → (List GatePlace → Type 0) → List Gv → Type 0
+AreStateEntered s asked then_seen = (h : List Entry) → Saw s.opening s.seen h → Entered s.opening s.place asked false false h then_seen
+
+-- after what a seat at the users had seen
 abbrev pub AreUsersEntered : UserSeatAt → (List GatePlace → Type 0) → List Gv → Type 0
 AreUsersEntered u asked then_seen = (h : List UserEntry) → SawUsers u.opening u.seen h → UsersEntered u.opening u.place asked h then_seen
 
--- behind what both seats of a place had seen
+-- after what both seats of a place had seen
 abbrev pub AreEntered : SeatAt → UserSeatAt → (List GatePlace → Type 0) → List Gv → List Gv → Type 0
 AreEntered s u asked then_seen then_users = (h : List Entry) (g : List UserEntry) → Saw s.opening s.seen h → SawUsers u.opening u.seen g → BothEntered s.opening u.opening s.place u.place asked h g then_seen then_users

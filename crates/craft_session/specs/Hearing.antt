@@ -1,14 +1,15 @@
 -- What a session wants of the users, and what it hears of them.
-use Rattle.std.specs.Prelude.{◌≡◌, ◌≢◌, ℕ, Bool, List, [], ◌∷◌, ◌++◌, Option, Some, None}
+use Rattle.std.specs.Prelude.{◌≡◌, ◌≢◌, ℕ, Bool, List, [], ◌∷◌, ◌++◌, Option, Result, Ok, Err}
 use base.Stored.{Gv}
 use Rattle.turnstile.specs.Turning.{Each}
 use Rattle.dxc_outside.specs.declared.gate.GatePlace.{GatePlace}
+use Rattle.dxc_outside.specs.declared.stopped.Stopped.{Stopped}
 use Rattle.dxc_model.specs.declared.cause.Cause.{Cause}
 use Rattle.dxc_model.specs.declared.user.Class.{Class}
 use Rattle.user_admin.specs.declared.op.UserEntry.{UserEntry}
-use Rattle.user_admin.specs.declared.op.UserOp.{UserOp}
+use Rattle.tl1_users.specs.declared.op.UserOp.{UserOp}
 use Rattle.user_admin.specs.declared.op.UserRow.{UserRow}
-use Rattle.user_admin.specs.declared.op.UserOp.TheVariants as op
+use Rattle.tl1_users.specs.declared.op.UserOp.TheVariants as op
 use Rattle.user_admin.specs.declared.op.UserOutcome.{UserOutcome}
 use Rattle.user_admin.specs.declared.op.UserOutcome.TheVariants.{Done, Denied, Failed, Answered}
 use Rattle.user_admin.specs.Histories.{Opening, users_after}
@@ -93,7 +94,19 @@ pub record IsUnasked (seat : UserSeatAt) (w : Wanted) (then_seen : List Gv) : Ty
   pub changing : IsChanging op
   pub behind : (h : List UserEntry) → Saw seat.opening seat.seen h → TurnedBack seat.opening seat.place h then_seen
 
--- what came of asking the users; none, where a stop came
-abbrev pub AskedIs : UserSeatAt → Wanted → (Heard → Ask) → List UserRow → List Gv → (List GatePlace → Type 0) → Option Ask → Type 0
-AskedIs seat w by rows then_seen gate (Some a) = IsAsked seat w by a rows then_seen gate
-AskedIs seat w by rows then_seen gate None = IsUnasked seat w then_seen × AreUsersEntered seat gate then_seen
+-- what came of asking the users; an error, where a stop came
+abbrev pub AskedIs : UserSeatAt → Wanted → (Heard → Ask) → List UserRow → List Gv → (List GatePlace → Type 0) → Result Ask Stopped → Type 0
+AskedIs seat w by rows then_seen gate (Ok a) = IsAsked seat w by a rows then_seen gate
+AskedIs seat w by rows then_seen gate (Err e) = IsUnasked seat w then_seen × AreUsersEntered seat gate then_seen
+
+-- what asking the users left: the rows that were read, what the seat at them has seen then, and where the gate was asked
+pub record Left : Type 1 where
+  pub rows : List UserRow
+  pub seen : List Gv
+  pub gate : List GatePlace → Type 0
+
+abbrev pub left : List UserRow → List Gv → (List GatePlace → Type 0) → Left
+left rows seen gate = record { rows = rows; seen = seen; gate = gate }
+
+abbrev pub AskedAt : UserSeatAt → Wanted → (Heard → Ask) → Left → Result Ask Stopped → Type 0
+AskedAt seat w by x a = AskedIs seat w by x.rows x.seen x.gate a

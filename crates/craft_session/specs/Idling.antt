@@ -22,7 +22,7 @@ abbrev pub limit_of : IdleLimits → SessionUser → Option ℕ
 limit_of limits Nobody = None
 limit_of limits (User uid class) = limit_for limits class
 
--- how many reads in a row brought nothing, behind one more: 16 tells that it brought nothing
+-- how many reads in a row brought nothing, after one more: 16 tells that it brought nothing
 abbrev pub silent_after : (silent read : ℕ) → ℕ
 silent_after silent read = if read == 16 then silent + 1 else 0
 
@@ -45,7 +45,7 @@ module _ (l : Language Request Moment) (begun : LinkState → Type 0) (told cloc
     pub logged_in : read.now.attending.user ≡ user
     pub nothing : told → read.link.left ≡ replicate many quiet ++ j.left
 
-  -- a read that brought something, and no more reads behind it than these
+  -- a read that brought something, and no more reads after it than these
   pub record WasHeard (j : LinkState) (many : ℕ) (b : Beginning) : Type 0 where
     pub number : ℕ
     pub since : j.reads ≤ number + 1 + many

@@ -14,7 +14,9 @@ pub mod Progresses
 pub mod Runs
 pub mod Responses
 pub mod Meanings
+pub mod Readings
 pub mod Seats
+pub mod Turns
 pub mod Sessions
 pub mod Desks
 pub mod Plain
@@ -23,7 +25,7 @@ pub mod Scripts
 pub mod Places
 pub mod Stamps
 pub mod Timely
-pub mod Pieces
+pub mod Gathered
 pub mod Lending
 pub mod Noted
 pub mod Waiting

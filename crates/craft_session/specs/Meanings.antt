@@ -16,9 +16,9 @@ use Rattle.tl1_command.specs.Codes.{is_same_text}
 use Rattle.tl1_command.specs.Meanings.{Asked, acts, cancels, header, allows, inhibits, shows, asks_table, meaning}
 use Rattle.shelf_file.specs.Contents.{Contents}
 use Rattle.shelf_file.specs.Keys.{upper}
-use Rattle.user_admin.specs.declared.op.UserOp.{UserOp}
-use Rattle.user_admin.specs.declared.op.UserOp.TheVariants as user
-use Rattle.user_admin.specs.Commands.{is_not_logged_in, user_meaning}
+use Rattle.tl1_users.specs.declared.op.UserOp.{UserOp}
+use Rattle.tl1_users.specs.declared.op.UserOp.TheVariants as user
+use Rattle.tl1_users.specs.Commands.{is_not_logged_in, user_meaning}
 use Rattle.craft_session.specs.declared.ask.Ask.{Ask}
 use Rattle.craft_session.specs.declared.ask.Ask.TheVariants.{Refused, LogsIn, LogsOut, Completes, Allows, Inhibits, Lists, Shows, Restarts, Changes}
 use Rattle.craft_session.specs.Asks.{Language, asks_program, is_told_as}

@@ -1,5 +1,5 @@
 -- What a session notes of its units, and that it noted that.
-use Rattle.std.specs.Prelude.{◌≡◌, ◌⊎◌, ℕ, List, [], ◌∷◌, ◌++◌, Option, Some, None}
+use Rattle.std.specs.Prelude.{◌≡◌, ◌⊎◌, ℕ, List, [], ◌∷◌, ◌++◌, Option, Some, None, Result, Ok, Err}
 use mathlib.Core.Logic.{inl, inr}
 use base.Stored.{Gv}
 use Rattle.dxc_num.specs.declared.port.Port.{Port}
@@ -7,6 +7,7 @@ use Rattle.dxc_num.specs.Dimensions.{Dimensions}
 use Rattle.dxc_outside.specs.declared.clock.Moment.{Moment}
 use Rattle.dxc_outside.specs.declared.send.Sent.{Sent}
 use Rattle.dxc_outside.specs.declared.send.Sent.TheVariants.{Whole as Sent_whole, Cut as Sent_cut}
+use Rattle.dxc_outside.specs.declared.stopped.Stopped.{Stopped}
 use Rattle.dxc_outside.specs.Links.{LinkState}
 use Rattle.dxc_model.specs.declared.cause.Cause.{Cause}
 use Rattle.dxc_model.specs.declared.cause.Cause.TheVariants.{BadIdentity}
@@ -28,15 +29,15 @@ use Rattle.dxc_notes.specs.declared.note.Note.TheVariants as note
 use Rattle.tl1_text.specs.Units.{Input}
 use Rattle.shelf_file.specs.Contents.{Contents}
 use Rattle.user_admin.specs.declared.op.UserEntry.{UserEntry}
-use Rattle.user_admin.specs.declared.op.UserOp.{UserOp}
-use Rattle.user_admin.specs.declared.op.UserOp.TheVariants as users_op
+use Rattle.tl1_users.specs.declared.op.UserOp.{UserOp}
+use Rattle.tl1_users.specs.declared.op.UserOp.TheVariants as users_op
 use Rattle.user_admin.specs.Turns.{Saw as SawUsers, TurnedBack}
 use Rattle.xc_core.specs.Seeing.{Saw, Turned, entry}
 use Rattle.craft_session.specs.declared.ask.Ask.{Ask}
 use Rattle.craft_session.specs.declared.ask.Ask.TheVariants.{Refused, LogsIn, LogsOut, Completes, Allows, Inhibits, Lists, Shows, Restarts, Changes}
 use Rattle.craft_session.specs.declared.attending.Attending.{Attending}
 use Rattle.craft_session.specs.declared.end.Progress.{Progress}
-use Rattle.craft_session.specs.declared.end.Progress.TheVariants.{On, Cut, Stopped}
+use Rattle.craft_session.specs.declared.end.Progress.TheVariants.{On, Cut}
 use Rattle.craft_session.specs.declared.lent.Lent.{Ghosts as LentOf}
 use Rattle.craft_session.specs.Asks.{Reply, completed, completed_rows, shown, restarted, denied}
 use Rattle.craft_session.specs.Desks.{IsAnswered, IsSaidOf, IsStoppedBefore, IsStoppedBehind}
@@ -136,9 +137,9 @@ users_notes user tag (to_look vacant uid pid) a = []
 users_notes user tag (to_do o) a = change_notes user tag o (outcome_by a)
 
 -- so it was noted; nothing, where a stop came
-abbrev pub UsersNoted : (List Note → Type 0) → SessionUser → Option (List ℕ) → Wanted → Option Ask → Type 0
-UsersNoted noted user tag w (Some a) = noted (users_notes user tag w a)
-UsersNoted noted user tag w None = noted []
+abbrev pub UsersNoted : (List Note → Type 0) → SessionUser → Option (List ℕ) → Wanted → Result Ask Stopped → Type 0
+UsersNoted noted user tag w (Ok a) = noted (users_notes user tag w a)
+UsersNoted noted user tag w (Err e) = noted []
 
 -- as what a unit is noted besides, by what it asks and its reply: who logs in and out, what changes circuits or equipment, and restarts
 abbrev pub notes_of : Dimensions → SessionUser → Option (List ℕ) → Ask → Reply → List Note
@@ -182,12 +183,12 @@ pub record IsBeside (told : Type 0) (b c : Stood) : Type 0 where
 
 module _ (s : Contents) (t : Telling) where
   -- a unit was answered, or a part of the response was written, or a stop cut it
-  pub record IsUnit (b : Stood) (u : Input) (how : Progress) (c : Stood) : Type 0 where
+  pub record IsUnit (b : Stood) (u : Input) (how : Result Progress Stopped) (c : Stood) : Type 0 where
     pub seat : IsSameSeat b.seat c.seat
     pub users : IsSameUserSeat b.users c.users
     pub answered : IsAnswered s t.told t.clock_told b.link c.link b.coming c.coming u b.seat b.users (now_in b) (now_in c) how
 
-  -- as what it is noted: by who gave it, its tag, what it wanted of the users, what it asks behind what was heard of them, and the reply
+  -- as what it is noted: by who gave it, its tag, what it wanted of the users, what it asks after what was heard of them, and the reply
   abbrev pub said_notes : (sent : Sent) (b : Stood) (u : Input) (c : Stood) → IsSaidOf s t.told t.clock_told b.link c.link b.coming c.coming sent u b.seat b.users (now_in b) (now_in c) → List Note
   said_notes sent b u c x = users_notes b.attending.user (tag_of u) (wants s b.attending.user u) (asks s b.attending.user x.heard u) ++ notes_of s.shape b.attending.user (tag_of u) (asks s b.attending.user x.heard u) x.reply
 
@@ -196,16 +197,16 @@ module _ (s : Contents) (t : Telling) where
   cut_notes b u c (inl x) = users_notes b.attending.user (tag_of u) (wants s b.attending.user u) (asks s b.attending.user x.heard u)
   cut_notes b u c (inr x) = []
 
-  abbrev pub unit_notes : (how : Progress) (b : Stood) (u : Input) (c : Stood) → IsUnit b u how c → List Note
-  unit_notes On b u c x = said_notes Sent_whole b u c x.answered
-  unit_notes Cut b u c x = said_notes Sent_cut b u c x.answered
-  unit_notes Stopped b u c x = cut_notes b u c x.answered.stopped
+  abbrev pub unit_notes : (how : Result Progress Stopped) (b : Stood) (u : Input) (c : Stood) → IsUnit b u how c → List Note
+  unit_notes (Ok On) b u c x = said_notes Sent_whole b u c x.answered
+  unit_notes (Ok Cut) b u c x = said_notes Sent_cut b u c x.answered
+  unit_notes (Err e) b u c x = cut_notes b u c x.answered.stopped
 
   -- from the one moment to the other these were its notes
   pub data Notes : Stood → List Note → Stood → Type 0 where
     no_notes : (a : Stood) → Notes a [] a
     notes_beside : (a b c : Stood) (ns : List Note) → Notes a ns b → IsBeside t.told b c → Notes a ns c
-    notes_on : (a b c : Stood) (ns : List Note) (u : Input) (how : Progress) → Notes a ns b → (x : IsUnit b u how c) → Notes a (ns ++ unit_notes how b u c x) c
+    notes_on : (a b c : Stood) (ns : List Note) (u : Input) (how : Result Progress Stopped) → Notes a ns b → (x : IsUnit b u how c) → Notes a (ns ++ unit_notes how b u c x) c
 
   -- and they were told
   pub record HasNoted (a c : Stood) (noted : List Note → Type 0) : Type 0 where

@@ -1,7 +1,7 @@
 -- The places of one state, before any of them took a turn.
 use Rattle.std.specs.Prelude.{◌≡◌, ℕ, ◌+◌, true, List, [], ◌∷◌}
 use base.Stored.{Gv}
-use Rattle.turnstile.specs.Passing.{Gate, Ident, Token}
+use Rattle.turnstile.specs.Passing.{TurnstileView, Ident, Token}
 use Rattle.fabric_words.specs.Seats.{FabricId}
 use Rattle.shelf_file.specs.Contents.{Contents}
 use Rattle.user_admin.specs.Coding.{opening_coded as users_coded}
@@ -34,7 +34,7 @@ pub record Turnstiles : Type 0 where
   pub users : Ident
   pub places : ℕ
 
-abbrev pub turnstiles_of : {X Y : Type 0} → Gate X → Gate Y → Turnstiles
+abbrev pub turnstiles_of : {X Y : Type 0} → TurnstileView X → TurnstileView Y → Turnstiles
 turnstiles_of t u = record { state = t.id; users = u.id; places = t.passes }
 
 -- the place of this number at these turnstiles, which has seen nothing of the histories

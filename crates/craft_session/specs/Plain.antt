@@ -24,11 +24,11 @@ pub record At : Type 0 where
   pub changes : List Change
   pub attending : Attending
 
--- where a plain session stands behind these entries
+-- where a plain session stands after these entries
 abbrev pub standing : Board → List Entry → Attending → At
 standing t h s = record { table = table_after t h; changes = changes_of h; attending = s }
 
--- what limit a change meets behind these
+-- what limit a change meets after these
 abbrev pub Limit : Type 1
 Limit = List Change → Change → Option Cause → Type 0
 
@@ -141,7 +141,7 @@ module _ {U M : Type 0} (l : Language U M) (limit : Limit) (excused : Excuse) (m
   Answers a (unit u) said b = IsResponse a u said b
   Answers a quiet said b = (said ≡ silence) × (b ≡ a)
 
-  -- the reports of the changes behind the cursor, each with the next moment
+  -- the reports of the changes after the cursor, each with the next moment
   pub record IsReport (a : At) (cursor : ℕ) (said : Said M) (b : At) : Type 0 where
     pub before : At
     pub waited : meanwhile a before

@@ -133,5 +133,8 @@ pub record Addition : Type 0 where
   pub old : Draft
   pub new : Draft
 
+abbrev pub addition : Sent → Draft → Draft → Addition
+addition sent old new = record { sent = sent; old = old; new = new }
+
 abbrev pub Adds : (told : Type 0) (before after : LinkState) → Addition → (lines : List (List ℕ)) → Type 0
 Adds told k j a lines = Fills told k j a.sent a.old a.new lines

@@ -16,7 +16,7 @@ use Rattle.dxc_model.specs.declared.entry.Outcome.TheVariants as outcome
 use Rattle.dxc_model.specs.Steps.{IsLimit, IsUnderWay}
 use Rattle.dxc_model.specs.Histories.{IsLegal, KeepsTurns, table_after}
 use Rattle.tl1_text.specs.Units.{IsStream}
-use Rattle.user_admin.specs.declared.op.UserOp.{UserOp}
+use Rattle.tl1_users.specs.declared.op.UserOp.{UserOp}
 use Rattle.user_admin.specs.Histories.{Opening as UsersOpening}
 use Rattle.user_admin.specs.Verdicts.{IsChanging}
 use Rattle.xc_core.specs.Seeing.{entry}
@@ -107,7 +107,7 @@ module _ (disk_told : Type 0) (disk users_disk : DiskState) (place : ℕ) (o : O
       pub written : out ≡ walk.earlier ++ walk.latest
       pub plays : Plays tongue (LimitBehind o.first) (excused_on (length (units_in walk.happenings))) alone (opened tongue o) walk.happenings (said_in walk) (standing o.first.fold.table walk.history walk.attending)
 
-    -- What happened before the last was served, and of the last one's messages a part was written; the look behind a response may be missing.
+    -- What happened before the last was served, and of the last one's messages a part was written; the look after a response may be missing.
     pub record AnsweredInPart (items : List Item) (out : List ℕ) : Type 0 where
       pub walk : Walk Request Moment
       pub rest : List ℕ
@@ -133,7 +133,7 @@ module _ (disk_told : Type 0) (disk users_disk : DiskState) (place : ℕ) (o : O
       pub written : out ≡ earlier.bytes ++ part
 
     -- What happened before the last was served, and a stop cut the last, INIT-SYS or a changing command, which has no response: it cut a restart,
-    -- or the operation, behind restarts that were due.
+    -- or the operation, after restarts that were due.
     pub record AnsweredToStop (items : List Item) (out : List ℕ) : Type 0 where
       pub walk : Walk Request Moment
       pub last : Request
@@ -178,7 +178,7 @@ module _ (disk_told : Type 0) (disk users_disk : DiskState) (place : ℕ) (o : O
         pub no_fault : l.write_faults ≡ k.write_faults
         pub answered : Answered items out
 
-      -- a write failed, and the bytes ahead, read behind the last that happened, were dropped
+      -- a write failed, and the bytes ahead, read after the last that happened, were dropped
       pub record WroteInPart : Type 0 where
         pub items : List Item
         pub ahead : List ℕ

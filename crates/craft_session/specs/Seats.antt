@@ -2,7 +2,7 @@
 use Rattle.std.specs.Prelude.{◌≡◌, ℕ, List, refl}
 use Rattle.std.specs.Coded.{Coded, code_by, coded×, coded_ℕ}
 use base.Stored.{Gv}
-use Rattle.turnstile.specs.Passing.{Gate, Ident, Token, ident_code, seen_code}
+use Rattle.turnstile.specs.Passing.{TurnstileView, Ident, Token, ident_code, seen_code}
 use Rattle.dxc_disk.specs.Disks.{DiskState}
 use Rattle.dxc_model.specs.declared.entry.Entry.{Entry}
 use Rattle.fabric_words.specs.Seats.{FabricId}
@@ -32,7 +32,7 @@ pub record SeatAt : Type 0 where
 abbrev pub seat_coded : Coded SeatAt
 seat_coded = code_by (Opening × (Ident × (ℕ × (ℕ × List Gv)))) (coded× opening_coded (coded× ident_code (coded× coded_ℕ (coded× coded_ℕ seen_code)))) (λ s. (s.opening, (s.turnstile, (s.place, (s.places, s.seen))))) (λ p. record { opening = p.0; turnstile = p.1.0; place = p.1.1.0; places = p.1.1.1.0; seen = p.1.1.1.1 }) (λ _. refl)
 
-abbrev pub seat_at : {D : Type 0} → (D → DiskState) → Token → Gate (State D) → SeatAt
+abbrev pub seat_at : {D : Type 0} → (D → DiskState) → Token → TurnstileView (State D) → SeatAt
 seat_at state p t = record { opening = opening_of state t.first; turnstile = t.id; place = p.number; places = t.passes; seen = p.seen }
 
 -- the seat of the same place
@@ -41,7 +41,7 @@ IsSameSeat old new = (new.opening ≡ old.opening) × (new.place ≡ old.place) 
 
 -- The pass is the turnstile's and no turn of it is out; the fabric is that of the turnstile's opening; what the pass has seen is a history in which
 -- the place hasn't got the Provisioner out; and where the disk tells its content, the journal never read otherwise than it was written.
-abbrev pub IsSeated : {D : Type 0} → Type 0 → (D → DiskState) → Token → Gate (State D) → FabricId → Type 0
+abbrev pub IsSeated : {D : Type 0} → Type 0 → (D → DiskState) → Token → TurnstileView (State D) → FabricId → Type 0
 IsSeated told state p t i = HasPass t p × ((opening_of state t.first).site.fabric ≡ i) × ((h : List Entry) × Saw (opening_of state t.first) p.seen h × Rests p.number h) × SawNoneAstray told p.seen
 
 -- of the users: where their history began, which turnstile it is of, the number of the place, how many places there are, and the codes of what it has seen of the history
@@ -55,14 +55,14 @@ pub record UserSeatAt : Type 0 where
 abbrev pub user_seat_coded : Coded UserSeatAt
 user_seat_coded = code_by (UsersOpening × (Ident × (ℕ × (ℕ × List Gv)))) (coded× users_coded (coded× ident_code (coded× coded_ℕ (coded× coded_ℕ seen_code)))) (λ s. (s.opening, (s.turnstile, (s.place, (s.places, s.seen))))) (λ p. record { opening = p.0; turnstile = p.1.0; place = p.1.1.0; places = p.1.1.1.0; seen = p.1.1.1.1 }) (λ _. refl)
 
-abbrev pub user_seat_at : {U : Type 0} → (U → DiskState) → Token → Gate (SharedUsers U) → UserSeatAt
+abbrev pub user_seat_at : {U : Type 0} → (U → DiskState) → Token → TurnstileView (SharedUsers U) → UserSeatAt
 user_seat_at state p t = record { opening = users_opening state t.first; turnstile = t.id; place = p.number; places = t.passes; seen = p.seen }
 
 abbrev pub IsSameUserSeat : UserSeatAt → UserSeatAt → Type 0
 IsSameUserSeat old new = (new.opening ≡ old.opening) × (new.place ≡ old.place) × (new.places ≡ old.places) × (new.turnstile ≡ old.turnstile)
 
 -- the pass is the turnstile's, no turn of it is out, and what it has seen is a history in which the place hasn't got the users' keeper out
-abbrev pub IsUserSeated : {U : Type 0} → (U → DiskState) → Token → Gate (SharedUsers U) → Type 0
+abbrev pub IsUserSeated : {U : Type 0} → (U → DiskState) → Token → TurnstileView (SharedUsers U) → Type 0
 IsUserSeated state p t = HasUsersPass t p × ((h : List UserEntry) × SawUsers (users_opening state t.first) p.seen h) × IsAtRest p
 
 -- a shelf, and the seats of one place

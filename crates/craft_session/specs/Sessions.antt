@@ -1,8 +1,9 @@
 -- How a session stands over its link, and how it ends.
-use Rattle.std.specs.Prelude.{◌≡◌, ◌≢◌, ◌⊎◌, ◌≤◌, ◌<◌, ℕ, Bool, true, false, List, [], ◌∷◌, ◌++◌}
+use Rattle.std.specs.Prelude.{◌≡◌, ◌≢◌, ◌⊎◌, ◌≤◌, ◌<◌, ℕ, Bool, true, false, List, [], ◌∷◌, ◌++◌, Result, Ok, Err}
 use base.Stored.{Gv}
 use Rattle.dxc_causes.specs.Causes.{Rose}
 use Rattle.dxc_outside.specs.declared.send.Sent.{Sent}
+use Rattle.dxc_outside.specs.declared.stopped.Stopped.{Stopped}
 use Rattle.dxc_outside.specs.declared.send.Sent.TheVariants.{Whole}
 use Rattle.dxc_outside.specs.declared.clock.Moment.{Moment}
 use Rattle.dxc_outside.specs.Items.{Item, bytes}
@@ -14,7 +15,7 @@ use Rattle.tl1_text.specs.declared.reader.UnitKind.TheVariants.{More}
 use Rattle.tl1_text.specs.Units.{IsRest}
 use Rattle.tl1_text.specs.Reading.{Reader, Made}
 use Rattle.user_admin.specs.declared.op.UserEntry.{UserEntry}
-use Rattle.user_admin.specs.declared.op.UserOp.{UserOp}
+use Rattle.tl1_users.specs.declared.op.UserOp.{UserOp}
 use Rattle.user_admin.specs.Histories.{Opening as UsersOpening}
 use Rattle.user_admin.specs.Occupants.{is_cancelled}
 use Rattle.user_admin.specs.Turns.{Saw as SawUsers}
@@ -27,7 +28,7 @@ use Rattle.craft_session.specs.declared.attending.Attending.{Attending}
 use Rattle.craft_session.specs.declared.end.SessionEnd.{SessionEnd}
 use Rattle.craft_session.specs.declared.end.SessionEnd.TheVariants.{End, ReadFault, WriteFault, Stopped as Session_stopped, Spent, Unattended, Idle, Cancelled}
 use Rattle.craft_session.specs.declared.end.Progress.{Progress}
-use Rattle.craft_session.specs.declared.end.Progress.TheVariants.{On, Cut, Stopped}
+use Rattle.craft_session.specs.declared.end.Progress.TheVariants.{On, Cut}
 use Rattle.craft_session.specs.Asks.{Reply, Language, user_after}
 use Rattle.craft_session.specs.Consulting.{Consults}
 use Rattle.craft_session.specs.Happenings.{Happening, Happens, Request, unit}
@@ -106,7 +107,7 @@ module _ (l : Language Request Moment) where
     pub written : out ≡ walk.earlier ++ walk.latest
 
   -- The same where of the last happening's messages a part was written: the moments that were taken are the first of those that they would take,
-  -- and the look behind a response may be missing. Something had happened.
+  -- and the look after a response may be missing. Something had happened.
   pub record CutPast (clock_told : Type 0) (c d : List Moment) (b : Beginning) (now : Now) (items : List Item) (out : List ℕ) : Type 0 where
     pub walk : Walk Request Moment
     pub rest : List ℕ
@@ -179,11 +180,11 @@ module _ (l : Language Request Moment) where
     pub no_fault : j.write_faults ≡ k.write_faults
     pub past : StopPast clock_told c d b now items out
 
-  -- how a session stands after a unit, with a look for changes due or not
-  abbrev pub Goes : (told clock_told : Type 0) (k j : LinkState) (c d : List Moment) (b : Beginning) (now : Now) (how : Progress) (due : Bool) (r : Reader) (ahead : List ℕ) → Type 0
-  Goes told clock_told k j c d b now On due r ahead = Stands told clock_told k j c d b now due More r ahead
-  Goes told clock_told k j c d b now Cut due r ahead = Breaks told clock_told k j c d b now
-  Goes told clock_told k j c d b now Stopped due r ahead = Halts told clock_told k j c d b now
+  -- how a session stands after a unit, with a look for changes due or not; an error, where a stop came
+  abbrev pub Goes : (told clock_told : Type 0) (k j : LinkState) (c d : List Moment) (b : Beginning) (now : Now) (how : Result Progress Stopped) (due : Bool) (r : Reader) (ahead : List ℕ) → Type 0
+  Goes told clock_told k j c d b now (Ok On) due r ahead = Stands told clock_told k j c d b now due More r ahead
+  Goes told clock_told k j c d b now (Ok Cut) due r ahead = Breaks told clock_told k j c d b now
+  Goes told clock_told k j c d b now (Err e) due r ahead = Halts told clock_told k j c d b now
 
   -- a session that ended with no message cut: all that was read has happened, or is the rest
   pub record Served (told clock_told : Type 0) (k j : LinkState) (c d : List Moment) (b : Beginning) (now : Now) : Type 0 where

@@ -1,4 +1,4 @@
--- That each byte of a session was written in its time: behind the turns that its message rests on.
+-- That each byte of a session was written in its time: after the turns that its message rests on.
 use Rattle.std.specs.Prelude.{◌≡◌, ◌⊎◌, ◌≤◌, ◌<◌, ◌+◌, ℕ, Bool, List, [], ◌∷◌, ◌++◌, length}
 use base.Stored.{Gv}
 use Rattle.dxc_outside.specs.declared.clock.Moment.{Moment}
@@ -50,7 +50,7 @@ pub record Reached : Type 0 where
 abbrev pub reached : List ℕ → List Gv → List Gv → Reached
 reached written seen users = record { written = written; seen = seen; users = users }
 
--- the seats have seen these histories, and more behind them
+-- the seats have seen these histories, and more after them
 pub record SeesOn (b : Beginning) (h : List Entry) (g : List UserEntry) (r : Reached) : Type 0 where
   pub entries : List Entry
   pub users_entries : List UserEntry

@@ -15,7 +15,7 @@ use Rattle.craft_session.specs.Meanings.{language_for}
 use Rattle.craft_session.specs.Seats.{SeatAt, UserSeatAt}
 use Rattle.craft_session.specs.Sessions.{Beginning, IsAt, ReadServed}
 
--- how long nobody has been logged in, behind one more read, which counts so much and began with this user logged in
+-- how long nobody has been logged in, after one more read, which counts so much and began with this user logged in
 abbrev pub waited_after : SessionUser → (waited read : ℕ) → ℕ
 waited_after Nobody waited read = min (waited + read) 65535
 waited_after (User uid class) waited read = 0
@@ -30,7 +30,7 @@ module _ (l : Language Request Moment) (begun : LinkState → Type 0) (told cloc
   abbrev pub Read : Beginning → ℕ → Type 0
   Read b number = ReadServed l begun told clock_told k c b number
 
-  -- a read that began with somebody logged in, and no more reads behind it than these
+  -- a read that began with somebody logged in, and no more reads after it than these
   pub record WasAttended (j : LinkState) (many : ℕ) (b : Beginning) : Type 0 where
     pub number : ℕ
     pub since : j.reads ≤ number + 1 + many

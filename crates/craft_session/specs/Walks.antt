@@ -50,19 +50,19 @@ RestartReply (Restarted c) r = r ≡ restarted
 RestartReply Cut r = ⊥
 RestartReply Taken r = ⊥
 
--- behind h, a restart of the place that was due
+-- after h, a restart of the place that was due
 pub record IsMend (place : ℕ) (h : List Entry) (e : Entry) : Type 0 where
   pub mine : e.place ≡ place
   pub restarts : e.op ≡ Restart
   pub made : IsRestarted e
   pub due : IsRestartDue h
 
--- behind h stand entries that no unit uses, and restarts, each of which was due
+-- after h stand entries that no unit uses, and restarts, each of which was due
 abbrev pub Mends : ℕ → List Entry → List Entry → Type 0
 Mends place h [] = Unit {0}
 Mends place h (e ∷ es) = (IsUnused place e ⊎ IsMend place h e) × Mends place (h ++ e ∷ []) es
 
--- what comes of a change behind h: while a stop stands last it fails by a fault of the journal, and only where a restart is due the journal reads
+-- what comes of a change after h: while a stop stands last it fails by a fault of the journal, and only where a restart is due the journal reads
 -- otherwise than it was written
 pub record IsChangeAt (h : List Entry) (o : Outcome) : Type 0 where
   pub stopped : IsStopped h → (q : Cause) × IsFault q × (o ≡ Failed q)
@@ -103,7 +103,7 @@ FrontOf place h (Shows what) front = ⊥
 FrontOf place h Restarts front = Each (IsUnused place) front
 FrontOf place h (Changes op) front = Mends place h front
 
--- the operation that a stop cut behind h: a restart, or the changing one where no stop stands last
+-- the operation that a stop cut after h: a restart, or the changing one where no stop stands last
 abbrev pub CutsAt : List Entry → Ask → Op → Type 0
 CutsAt h (Refused q) x = ⊥
 CutsAt h (LogsIn u) x = ⊥

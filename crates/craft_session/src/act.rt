@@ -1,11 +1,9 @@
-ghost use Rattle.std.specs.Prelude.{◌≡◌, ◌≢◌, ◌≤◌, false, List, IfSome, None, vec_capacity};
-ghost use Rattle.dxc_causes.specs.Causes.{Rose};
+ghost use Rattle.std.specs.Prelude.{◌≡◌, ◌≤◌, IfOk, IsErr, vec_capacity};
+ghost use Rattle.dxc_causes.specs.Stops.{RoseOnlyFor};
 ghost use Rattle.dxc_num.specs.Dimensions.{ports};
-ghost use Rattle.dxc_model.specs.declared.entry.Entry.{Entry};
-ghost use Rattle.xc_core.specs.Seeing.{Saw};
 ghost use Rattle.craft_session.specs.Asks.{IsAptActed, IsAptAsk, cursor_from, user_after};
-ghost use Rattle.craft_session.specs.Acting.{ActedIs};
-ghost use Rattle.craft_session.specs.Gated.{Entered};
+ghost use Rattle.craft_session.specs.Acting.{ActedFrom, came};
+ghost use Rattle.craft_session.specs.Gated.{AreStateEntered};
 ghost use Rattle.craft_session.specs.Seats.{IsSameSeat};
 
 use crate::ask::{Acted, Ask};
@@ -14,10 +12,10 @@ use crate::change::Changed;
 use crate::seat::Seat;
 use dxc_disk::Disk;
 use dxc_model::{Conn, SessionUser};
-use dxc_outside::Gate;
+use dxc_outside::{Gate, Stopped};
 use std::sync::Wait;
 
-/// Does what was asked; the rows of a listing stand in `rows` then. None: the gate stopped.
+/// Does what was asked; the rows of a listing stand in `rows` then.
 #[inline(always)]
 pub fn act<D: Disk + Drop, G: Gate, R: Wait>(
     seat: &mut Seat<D>,
@@ -26,61 +24,55 @@ pub fn act<D: Disk + Drop, G: Gate, R: Wait>(
     ask: &Ask,
     gate: &mut G,
     rt: &R,
-) -> Option<Acted>
+) -> Result<Acted, Stopped>
     requires room { ports seat.old.opening.first.fold.table.shape ≤ vec_capacity rows.old }
     requires apt { IsAptAsk seat.old.opening.first.fold.table.shape ask.now }
     ensures same { IsSameSeat seat.old seat.new }
-    ensures acts { (h : List Entry) → Saw seat.old.opening seat.old.seen h
-        → ActedIs seat.old.opening seat.old.place h attending.old ask.now result rows.new.items
-        attending.new seat.new.seen }
-    ensures of_shape { IfSome result
+    ensures acts { ActedFrom seat.old attending.old ask.now
+        (came result rows.new.items attending.new seat.new.seen) }
+    ensures of_shape { IfOk result
         (IsAptActed seat.old.opening.first.fold.table.shape rows.new.items) }
     ensures user { attending.new.user ≡ user_after attending.old.user ask.now }
     ensures room { vec_capacity rows.new ≡ vec_capacity rows.old }
-    ensures acted { result ≢ None → G.stops gate.new ≡ G.stops gate.old }
-    ensures stopped { result ≡ None → Rose (G.stops gate.old) (G.stops gate.new) }
-    ensures later { G.stops gate.old ≤ G.stops gate.new }
-    ensures entered { (h : List Entry) → Saw seat.old.opening seat.old.seen h → Entered
-        seat.old.opening seat.old.place (G.asked gate.old gate.new) false false h seat.new.seen }
+    ensures stopped { RoseOnlyFor (G.stops gate.old) (G.stops gate.new) (IsErr result) }
+    ensures entered { AreStateEntered seat.old (G.asked gate.old gate.new) seat.new.seen }
 {
     match ask {
-        Ask::Refused(cause) => Some(Acted::Denied(*cause)),
+        Ask::Refused(cause) => Ok(Acted::Denied(*cause)),
         Ask::LogsIn(named) => {
             attending.user = *named;
-            Some(Acted::Completed)
+            Ok(Acted::Completed)
         }
         Ask::LogsOut => {
             attending.user = SessionUser::Nobody;
             attending.watch = None;
-            Some(Acted::Completed)
+            Ok(Acted::Completed)
         }
-        Ask::Completes => Some(Acted::Completed),
+        Ask::Completes => Ok(Acted::Completed),
         Ask::Allows => {
             let newest = seat.mark(rt);
             attending.watch = Some(cursor(attending.watch, newest));
-            Some(Acted::Completed)
+            Ok(Acted::Completed)
         }
         Ask::Inhibits => {
             attending.watch = None;
-            Some(Acted::Completed)
+            Ok(Acted::Completed)
         }
         Ask::Lists(selection) => {
             seat.rows(*selection, rows, rt);
-            Some(Acted::Listed)
+            Ok(Acted::Listed)
         }
         Ask::Shows(subject) => {
             let inventory = seat.inventory(rt);
-            Some(Acted::Shown(*subject, inventory))
+            Ok(Acted::Shown(*subject, inventory))
         }
-        Ask::Restarts => match seat.restart(gate, rt) {
-            Changed::Done => Some(Acted::Restarted),
-            Changed::Denied(cause) => Some(Acted::Denied(cause)),
-            Changed::Stopped => None,
+        Ask::Restarts => match seat.restart(gate, rt)? {
+            Changed::Done => Ok(Acted::Restarted),
+            Changed::Denied(cause) => Ok(Acted::Denied(cause)),
         },
-        Ask::Changes(op) => match seat.change(op, gate, rt) {
-            Changed::Done => Some(Acted::Completed),
-            Changed::Denied(cause) => Some(Acted::Denied(cause)),
-            Changed::Stopped => None,
+        Ask::Changes(op) => match seat.change(op, gate, rt)? {
+            Changed::Done => Ok(Acted::Completed),
+            Changed::Denied(cause) => Ok(Acted::Denied(cause)),
         },
     }
 }

@@ -1,6 +1,18 @@
 use dxc_model::{Cause, Op, Selection, SessionUser};
 use tl1_command::Subject;
+use tl1_text::Span;
 use xc_core::turns::Inventory;
+
+/// What a unit means, before the users are asked. What it asks of the session and of the users is large: it stands where it was put down.
+#[derive(Clone, Copy)]
+pub enum Meaning {
+    /// It asks what was put down, whatever the users know.
+    Session,
+    /// ACT-USER: the parts of the unit that are the user's name and PID.
+    LogIn { uid: Span, pid: Span },
+    /// It asks of the users what was put down.
+    Users,
+}
 
 /// What a unit asks of a session: a cause that unit, user and shelf alone decide, else a command.
 #[derive(Clone, Copy)]

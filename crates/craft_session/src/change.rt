@@ -1,25 +1,21 @@
 //! A changing command: planned in one turn, journalled and driven to its end outside of any, and taken by the table in another.
-ghost use Rattle.std.specs.Prelude.{◌≡◌, ◌≢◌, ◌≤◌, [], length, IfSome, Option};
-ghost use Rattle.dxc_causes.specs.Causes.{Rose};
-ghost use Rattle.dxc_model.specs.declared.op.Change.{Change};
-ghost use Rattle.dxc_model.specs.declared.op.Op.{Op};
+ghost use Rattle.std.specs.Prelude.{◌≡◌, [], length, IfSome, IsErr, Ok};
+ghost use Rattle.dxc_causes.specs.Stops.{RoseOnlyFor};
 ghost use Rattle.dxc_model.specs.Operations.{IsApt};
 ghost use Rattle.roll_engine.specs.Rollings.{rest_of};
-ghost use Rattle.xc_core.specs.Reckonings.{Past};
-ghost use Rattle.xc_core.specs.Provisioners.{Rolls, ground_of};
-ghost use Rattle.xc_core.specs.Restarts.{Resumes};
+ghost use Rattle.xc_core.specs.Provisioners.{ground_of};
 ghost use Rattle.xc_core.specs.Drives.{CanDrive};
 ghost use Rattle.xc_core.specs.States.{opening_of};
 ghost use Rattle.xc_core.specs.Turns.{HasPass, SawNoneAstray};
 ghost use Rattle.xc_core.specs.Views.{After, AtRest, Denies, HasSeen, OutFor, PlannedFor, Upon};
 ghost use Rattle.craft_session.specs.Askings.{AskedBehind, ChangeAsked, RollAsked};
-ghost use Rattle.craft_session.specs.Commands.{AsksFor, AsksOut, ChangesTo, DriveAsked};
+ghost use Rattle.craft_session.specs.Commands.{AsksFor, AsksOut, ChangesTo, DriveAsked, ResumesOn, RollsOn};
 ghost use Rattle.craft_session.specs.Gated.{after_journal};
 
 use crate::mend::{Mended, mend};
 use dxc_disk::Disk;
 use dxc_model::{Cause, Op};
-use dxc_outside::{Gate, GatePlace, Pass1};
+use dxc_outside::{Gate, GatePlace, Stopped};
 use fabric_words::Fabric;
 use roll_engine::{Advance, Rolling};
 use std::snapshot::Snapshot;
@@ -28,17 +24,15 @@ use turnstile::{Pass, Rest, Turnstile};
 use xc_core::turns::{self, Took};
 use xc_core::{Driver, Noted, Provisioner, State, drive, note};
 
-/// What came of a changing command.
+/// What came of a changing command. Where the gate stopped, the Provisioner is home, halted.
 #[derive(Clone, Copy)]
 pub enum Changed {
     /// All its register writes are made, and the table has it.
     Done,
     Denied(Cause),
-    /// The gate stopped. The Provisioner is home, halted.
-    Stopped,
 }
 
-/// Makes the register writes, and waits for the frames in their way. Stop: the gate stopped before one of them, or before the end.
+/// Makes the register writes, and waits for the frames in their way. Err: the gate stopped before one of them, or before the end.
 #[inline(always)]
 pub fn roll<D: Disk, G: Gate, R: Wait>(
     p: &mut Provisioner<D>,
@@ -46,31 +40,24 @@ pub fn roll<D: Disk, G: Gate, R: Wait>(
     rolling: &mut Rolling,
     gate: &mut G,
     rt: &R,
-) -> Pass1
+) -> Result<(), Stopped>
     requires own { p.old.mover.fabric ≡ fabric.now }
     requires rolls { CanDrive D.told D.state p.old rolling.old }
     ensures ground { ground_of p.new ≡ ground_of p.old }
     ensures journal { p.new.journal ≡ p.old.journal }
     ensures doubt { p.new.doubt ≡ p.old.doubt }
-    ensures rolls { (b : Past) → (op : Op) → (c : Change)
-        → Rolls D.told D.state b op c p.old rolling.old
-        → Rolls D.told D.state b op c p.new rolling.new }
-    ensures resumes { (b : Past) → (lacking : Option Change) → (g : Past)
-        → Resumes D.told D.state b lacking g p.old rolling.old
-        → Resumes D.told D.state b lacking g p.new rolling.new }
+    ensures rolls { RollsOn D.Disk (p.old, rolling.old) (p.new, rolling.new) }
+    ensures resumes { ResumesOn D.Disk (p.old, rolling.old) (p.new, rolling.new) }
     ensures work { rolling.new.work ≡ rolling.old.work }
-    ensures done { result ≡ Pass1.Go → rest_of rolling.new ≡ [] }
-    ensures go { result ≡ Pass1.Go → G.stops gate.new ≡ G.stops gate.old }
-    ensures stop { result ≡ Pass1.Stop → Rose (G.stops gate.old) (G.stops gate.new) }
-    ensures later { G.stops gate.old ≤ G.stops gate.new }
+    ensures done { result ≡ Ok tt → rest_of rolling.new ≡ [] }
+    ensures stopped { RoseOnlyFor (G.stops gate.old) (G.stops gate.new) (IsErr result) }
     ensures asked { RollAsked (G.asked gate.old gate.new) (length (rest_of rolling.old)) result }
 {
     let mut rest = Rest::new();
     for _ in rt.forever() {
-        match drive(p, fabric, rolling, gate) {
+        match drive(p, fabric, rolling, gate)? {
             Advance::Done => return gate.pass(GatePlace::Finish),
             Advance::InFrame(frame) => rest.again(frame, rt),
-            Advance::Stopped => return Pass1::Stop,
         }
     }
     unreachable!()
@@ -85,7 +72,7 @@ fn drive_out<D: Disk + Drop, G: Gate, R: Wait>(
     driver: Box<Driver<D>>,
     gate: &mut G,
     rt: &R,
-) -> Changed
+) -> Result<Changed, Stopped>
     requires pass { HasPass turns.now pass.old }
     requires fabric { (opening_of D.state turns.now.first).site.fabric ≡ fabric.now }
     requires taken { Upon D.Disk turns.now pass.old (OutFor D.Disk op.now driver.value) }
@@ -93,9 +80,7 @@ fn drive_out<D: Disk + Drop, G: Gate, R: Wait>(
     ensures pass { HasPass turns.now pass.new × (pass.new.number ≡ pass.old.number) }
     ensures changed { After D.Disk turns.now pass.old (ChangesTo op.now pass.new result) }
     ensures astray { SawNoneAstray D.told pass.new.seen }
-    ensures done { result ≢ Changed.Stopped → G.stops gate.new ≡ G.stops gate.old }
-    ensures stopped { result ≡ Changed.Stopped → Rose (G.stops gate.old) (G.stops gate.new) }
-    ensures later { G.stops gate.old ≤ G.stops gate.new }
+    ensures stopped { RoseOnlyFor (G.stops gate.old) (G.stops gate.new) (IsErr result) }
     ensures asked { DriveAsked (G.asked gate.old gate.new) (length (rest_of driver.value.rolling))
         result }
     ensures entered { After D.Disk turns.now pass.old
@@ -104,13 +89,13 @@ fn drive_out<D: Disk + Drop, G: Gate, R: Wait>(
     let mut driver = driver;
     let held = &mut *driver;
     match roll(&mut held.p, fabric, &mut held.rolling, gate, rt) {
-        Pass1::Go => {
+        Ok(()) => {
             turns::bring(pass, turns, op, driver, rt);
-            Changed::Done
+            Ok(Changed::Done)
         }
-        Pass1::Stop => {
+        Err(Stopped) => {
             turns::cut(pass, turns, op, driver, rt);
-            Changed::Stopped
+            Err(Stopped)
         }
     }
 }
@@ -125,7 +110,7 @@ fn carry_out<D: Disk + Drop, G: Gate, R: Wait>(
     bytes: &[u8; 64],
     gate: &mut G,
     rt: &R,
-) -> Changed
+) -> Result<Changed, Stopped>
     requires pass { HasPass turns.now pass.old }
     requires fabric { (opening_of D.state turns.now.first).site.fabric ≡ fabric.now }
     requires planned { Upon D.Disk turns.now pass.old
@@ -133,9 +118,7 @@ fn carry_out<D: Disk + Drop, G: Gate, R: Wait>(
     ensures pass { HasPass turns.now pass.new × (pass.new.number ≡ pass.old.number) }
     ensures changed { After D.Disk turns.now pass.old (ChangesTo op.now pass.new result) }
     ensures astray { SawNoneAstray D.told pass.new.seen }
-    ensures done { result ≢ Changed.Stopped → G.stops gate.new ≡ G.stops gate.old }
-    ensures stopped { result ≡ Changed.Stopped → Rose (G.stops gate.old) (G.stops gate.new) }
-    ensures later { G.stops gate.old ≤ G.stops gate.new }
+    ensures stopped { RoseOnlyFor (G.stops gate.old) (G.stops gate.new) (IsErr result) }
     ensures asked { AskedBehind (G.asked gate.old gate.new) [] result }
     ensures entered { After D.Disk turns.now pass.old
         (AsksOut (G.asked gate.old gate.new) pass.new) }
@@ -144,14 +127,14 @@ fn carry_out<D: Disk + Drop, G: Gate, R: Wait>(
     let held = &mut *driver;
     let rolling = Snapshot::of(&held.rolling);
     match note(&mut held.p, rolling, op, bytes, gate) {
-        Noted::Rolling => drive_out(pass, turns, fabric, op, driver, gate, rt),
-        Noted::Fault => {
+        Ok(Noted::Rolling) => drive_out(pass, turns, fabric, op, driver, gate, rt),
+        Ok(Noted::Fault) => {
             turns::fail(pass, turns, op, Cause::DiskFault, driver, rt);
-            Changed::Denied(Cause::DiskFault)
+            Ok(Changed::Denied(Cause::DiskFault))
         }
-        Noted::Stopped => {
+        Err(Stopped) => {
             turns::cut(pass, turns, op, driver, rt);
-            Changed::Stopped
+            Err(Stopped)
         }
     }
 }
@@ -191,7 +174,7 @@ pub fn change_in_line<D: Disk + Drop, G: Gate, R: Wait>(
     op: &Op,
     gate: &mut G,
     rt: &R,
-) -> Changed
+) -> Result<Changed, Stopped>
     requires pass { HasPass turns.now pass.old }
     requires fabric { (opening_of D.state turns.now.first).site.fabric ≡ fabric.now }
     requires apt { IsApt (opening_of D.state turns.now.first).first.fold.table.shape op.now }
@@ -199,15 +182,13 @@ pub fn change_in_line<D: Disk + Drop, G: Gate, R: Wait>(
     ensures pass { HasPass turns.now pass.new × (pass.new.number ≡ pass.old.number) }
     ensures changed { After D.Disk turns.now pass.old (ChangesTo op.now pass.new result) }
     ensures astray { SawNoneAstray D.told pass.new.seen }
-    ensures done { result ≢ Changed.Stopped → G.stops gate.new ≡ G.stops gate.old }
-    ensures stopped { result ≡ Changed.Stopped → Rose (G.stops gate.old) (G.stops gate.new) }
-    ensures later { G.stops gate.old ≤ G.stops gate.new }
+    ensures stopped { RoseOnlyFor (G.stops gate.old) (G.stops gate.new) (IsErr result) }
     ensures asked { ChangeAsked (G.asked gate.old gate.new) result }
     ensures entered { After D.Disk turns.now pass.old
         (AsksFor (G.asked gate.old gate.new) pass.new) }
 {
     match stand(pass, turns, op, rt) {
-        Some(cause) => Changed::Denied(cause),
+        Some(cause) => Ok(Changed::Denied(cause)),
         None => {
             let changed = change(pass, turns, fabric, op, gate, rt);
             turns.step_aside();
@@ -225,7 +206,7 @@ fn change<D: Disk + Drop, G: Gate, R: Wait>(
     op: &Op,
     gate: &mut G,
     rt: &R,
-) -> Changed
+) -> Result<Changed, Stopped>
     requires pass { HasPass turns.now pass.old }
     requires fabric { (opening_of D.state turns.now.first).site.fabric ≡ fabric.now }
     requires apt { IsApt (opening_of D.state turns.now.first).first.fold.table.shape op.now }
@@ -233,9 +214,7 @@ fn change<D: Disk + Drop, G: Gate, R: Wait>(
     ensures pass { HasPass turns.now pass.new × (pass.new.number ≡ pass.old.number) }
     ensures changed { After D.Disk turns.now pass.old (ChangesTo op.now pass.new result) }
     ensures astray { SawNoneAstray D.told pass.new.seen }
-    ensures done { result ≢ Changed.Stopped → G.stops gate.new ≡ G.stops gate.old }
-    ensures stopped { result ≡ Changed.Stopped → Rose (G.stops gate.old) (G.stops gate.new) }
-    ensures later { G.stops gate.old ≤ G.stops gate.new }
+    ensures stopped { RoseOnlyFor (G.stops gate.old) (G.stops gate.new) (IsErr result) }
     ensures asked { ChangeAsked (G.asked gate.old gate.new) result }
     ensures entered { After D.Disk turns.now pass.old
         (AsksFor (G.asked gate.old gate.new) pass.new) }
@@ -244,7 +223,7 @@ fn change<D: Disk + Drop, G: Gate, R: Wait>(
         Took::Rolling(driver, bytes) => {
             carry_out(pass, turns, fabric, op, driver, &bytes, gate, rt)
         }
-        Took::Denied(cause) => Changed::Denied(cause),
+        Took::Denied(cause) => Ok(Changed::Denied(cause)),
         Took::Halted | Took::Waits => change_again(pass, turns, fabric, op, gate, rt),
     }
 }
@@ -258,7 +237,7 @@ fn change_again<D: Disk + Drop, G: Gate, R: Wait>(
     op: &Op,
     gate: &mut G,
     rt: &R,
-) -> Changed
+) -> Result<Changed, Stopped>
     requires pass { HasPass turns.now pass.old }
     requires fabric { (opening_of D.state turns.now.first).site.fabric ≡ fabric.now }
     requires apt { IsApt (opening_of D.state turns.now.first).first.fold.table.shape op.now }
@@ -266,9 +245,7 @@ fn change_again<D: Disk + Drop, G: Gate, R: Wait>(
     ensures pass { HasPass turns.now pass.new × (pass.new.number ≡ pass.old.number) }
     ensures changed { After D.Disk turns.now pass.old (ChangesTo op.now pass.new result) }
     ensures astray { SawNoneAstray D.told pass.new.seen }
-    ensures done { result ≢ Changed.Stopped → G.stops gate.new ≡ G.stops gate.old }
-    ensures stopped { result ≡ Changed.Stopped → Rose (G.stops gate.old) (G.stops gate.new) }
-    ensures later { G.stops gate.old ≤ G.stops gate.new }
+    ensures stopped { RoseOnlyFor (G.stops gate.old) (G.stops gate.new) (IsErr result) }
     ensures asked { ChangeAsked (G.asked gate.old gate.new) result }
     ensures entered { After D.Disk turns.now pass.old
         (AsksFor (G.asked gate.old gate.new) pass.new) }
@@ -279,11 +256,10 @@ fn change_again<D: Disk + Drop, G: Gate, R: Wait>(
             Took::Rolling(driver, bytes) => {
                 return carry_out(pass, turns, fabric, op, driver, &bytes, gate, rt);
             }
-            Took::Denied(cause) => return Changed::Denied(cause),
-            Took::Halted => match mend(pass, turns, fabric, op, gate, rt) {
+            Took::Denied(cause) => return Ok(Changed::Denied(cause)),
+            Took::Halted => match mend(pass, turns, fabric, op, gate, rt)? {
                 Mended::Ready | Mended::Waits => {}
-                Mended::Denied(cause) => return Changed::Denied(cause),
-                Mended::Stopped => return Changed::Stopped,
+                Mended::Denied(cause) => return Ok(Changed::Denied(cause)),
             },
             Took::Waits => rest.again(0, rt),
         }

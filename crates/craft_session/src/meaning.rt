@@ -1,230 +1,192 @@
-//! What a unit asks of a session, behind what the users answer to it.
-ghost use Rattle.std.specs.Prelude.{◌≡◌, ◌≤◌, [], None, is_some, length, map};
-ghost use Rattle.dxc_causes.specs.Causes.{Rose};
+//! What a unit means, by its text, the shelf and who is logged in: nobody is asked yet, and nothing is done.
+ghost use Rattle.std.specs.Prelude.{◌≡◌, ◌≤◌, IfOk, is_some, length, map, Result};
 ghost use Rattle.dxc_num.specs.Dimensions.{Dimensions};
+ghost use Rattle.dxc_model.specs.declared.cause.Cause.{Cause as ACause};
 ghost use Rattle.dxc_model.specs.declared.user.SessionUser.{SessionUser as AUser};
 ghost use Rattle.tl1_text.specs.Spans.{AreBlocksOf, block_at};
 ghost use Rattle.tl1_text.specs.Tags.{ctag_of as tag_in};
 ghost use Rattle.tl1_text.specs.Units.{whole};
-ghost use Rattle.tl1_command.specs.Commands.{asked_by, asked_often, IsAptCommand, IsAptOften};
+ghost use Rattle.tl1_command.specs.Commands.{asked_by, asked_often, IsAptCommand, IsAptOften, IsAptOp};
+ghost use Rattle.tl1_command.specs.Meanings.{cancels};
+ghost use Rattle.tl1_users.specs.Commands.{NamesUid, user_meaning};
+ghost use Rattle.tl1_users.specs.declared.op.UserOp.{UserOp as AUserOp};
 ghost use Rattle.craft_session.specs.Asks.{IsAptAsk};
-ghost use Rattle.craft_session.specs.Desks.{ConsultedIs, put_down};
-ghost use Rattle.craft_session.specs.Gated.{NothingAsked};
-ghost use Rattle.craft_session.specs.Hearing.{AskedIs, Heard, IsAsked, nothing};
-ghost use Rattle.tl1_command.specs.Meanings.{meaning};
-ghost use Rattle.user_admin.specs.Commands.{is_not_logged_in};
-ghost use Rattle.craft_session.specs.Noted.{UsersNoted};
-ghost use Rattle.craft_session.specs.Meanings.{command_ask, command_wants, is_other_user as other_user, log_in, login_wants, named_by, session_ask, session_wants, table_ask, wants};
-ghost use Rattle.craft_session.specs.Seats.{IsSameUserSeat};
+ghost use Rattle.craft_session.specs.Hearing.{Heard, nothing};
+ghost use Rattle.craft_session.specs.Meanings.{is_other_user as other_user, session_ask, session_wants, table_ask, tag_of};
+ghost use Rattle.craft_session.specs.Readings.{IsCommand, IsReadAs, IsReadIn, IsReadOf, IsReadOfUsers, read_as};
 
-use crate::ask::Ask;
-use crate::user_commands::hear_users;
-use crate::users::UserDesk;
-use dxc_disk::Disk;
-use dxc_model::{Cause, Cct, Class, Conn, Label, Op, SessionUser, Uid};
-use dxc_notes::Notes;
-use dxc_outside::{Gate, Pass1};
+use crate::ask::{Ask, Meaning};
+use crate::secrets::Operation;
+use dxc_model::{Cause, Cct, Conn, Label, Op, SessionUser};
 use shelf_file::Shelf;
-use std::sync::Wait;
 use tl1_command::{Command, Frequent, command_with, frequent_of};
 use tl1_text::grammar::blocks;
 use tl1_text::{Blocks, Ctag, ctag_in, ctag_of};
-use user_admin::upper;
+use tl1_users::{is_of_users, user_command_of};
 
-/// Puts down the tag of a whole unit, and what the unit asks of the session of a user; the rows of users that it reads stand in `users` then.
-/// Stop: the gate stopped before the users were changed.
+/// Reads a whole unit, and puts down its tag, and what it asks of the session or of the users.
 // What is asked is large, so it is written where it is made out, and handed on by reference.
 #[inline(always)]
-pub fn consult<U: Disk + Drop, G: Gate, N: Notes, R: Wait>(
+pub fn read(
     shelf: &Shelf,
-    users: &mut UserDesk<U>,
     user: &SessionUser,
     unit: &[u8],
     tag: &mut Option<Ctag>,
     ask: &mut Ask,
-    gate: &mut G,
-    notes: &mut N,
-    rt: &R,
-) -> Pass1
+    asked: &mut Operation,
+) -> Meaning
     requires short { length unit.now ≤ 2047 }
-    requires no_rows { users.old.rows.items ≡ [] }
-    ensures same { IsSameUserSeat users.old.seat users.new.seat }
-    ensures consulted { ConsultedIs shelf.now user.now (whole unit.now) users.old.seat
-        users.new.rows.items users.new.seat.seen (G.asked gate.old gate.new) tag.new ask.new
-        result }
-    ensures noted { UsersNoted (N.noted notes.old notes.new) user.now tag.new
-        (wants shelf.now user.now (whole unit.now)) (put_down result ask.new) }
-    ensures apt { result ≡ Pass1.Go → IsAptAsk shelf.now.shape ask.new }
-    ensures unstopped { result ≡ Pass1.Go → G.stops gate.new ≡ G.stops gate.old }
-    ensures stopped { result ≡ Pass1.Stop → Rose (G.stops gate.old) (G.stops gate.new) }
-    ensures later { G.stops gate.old ≤ G.stops gate.new }
+    ensures tag { tag.new ≡ tag_of (whole unit.now) }
+    ensures read { IsReadOf shelf.now user.now (whole unit.now)
+        (read_as unit.now result ask.new asked.new.op) }
 {
     let Ok(found) = blocks(unit) else {
         *tag = ctag_of(unit);
         *ask = Ask::Refused(Cause::BadText);
-        return Pass1::Go;
+        return Meaning::Session;
     };
     *tag = ctag_in(unit, &found);
     let tagged = tag.is_some();
     match frequent_of(shelf.shape(), shelf.sid(), user, unit, &found, tagged) {
         Ok(often) => {
             on_frequent(often, ask);
-            return Pass1::Go;
+            return Meaning::Session;
         }
         Err(None) => {}
         Err(Some(cause)) => match cause {
-            // The users may know a command that this language doesn't.
+            // It may be one of the users' commands, which this language doesn't know.
             Cause::UnknownCommand => {}
             cause => {
                 *ask = Ask::Refused(cause);
-                return Pass1::Go;
+                return Meaning::Session;
             }
         },
     }
-    ask_in(shelf, users, user, unit, &found, tag, ask, gate, notes, rt)
+    read_in(shelf, user, unit, &found, tagged, ask, asked)
 }
 
-/// What a unit in the grammar asks. The blocks are the unit's. One that is no command may be one of the users'.
+/// Reads a unit in the grammar. The blocks are the unit's. One that is no command may be one of the users'.
 #[inline(never)]
-fn ask_in<U: Disk + Drop, G: Gate, N: Notes, R: Wait>(
+fn read_in(
     shelf: &Shelf,
-    users: &mut UserDesk<U>,
     user: &SessionUser,
     unit: &[u8],
     found: &Blocks,
-    tag: &Option<Ctag>,
+    tagged: bool,
     ask: &mut Ask,
-    gate: &mut G,
-    notes: &mut N,
-    rt: &R,
-) -> Pass1
+    asked: &mut Operation,
+) -> Meaning
     requires short { length unit.now ≤ 2047 }
     requires blocks { AreBlocksOf unit.now found.now.block.items }
-    requires tagged { is_some tag.now ≡ is_some (tag_in unit.now) }
-    requires no_rows { users.old.rows.items ≡ [] }
-    ensures same { IsSameUserSeat users.old.seat users.new.seat }
-    ensures asked { AskedIs users.old.seat (command_wants shelf.now user.now
-        (map (block_at unit.now) found.now.block.items) (meaning shelf.now.shape shelf.now.sid
-        user.now (map (block_at unit.now) found.now.block.items))) (λ x. command_ask shelf.now
-        user.now x (map (block_at unit.now) found.now.block.items) (meaning shelf.now.shape
-        shelf.now.sid user.now (map (block_at unit.now) found.now.block.items)))
-        users.new.rows.items users.new.seat.seen (G.asked gate.old gate.new)
-        (put_down result ask.new) }
-    ensures noted { UsersNoted (N.noted notes.old notes.new) user.now tag.now
-        (command_wants shelf.now user.now (map (block_at unit.now) found.now.block.items)
-        (meaning shelf.now.shape shelf.now.sid user.now
-        (map (block_at unit.now) found.now.block.items))) (put_down result ask.new) }
-    ensures apt { result ≡ Pass1.Go → IsAptAsk shelf.now.shape ask.new }
-    ensures unstopped { result ≡ Pass1.Go → G.stops gate.new ≡ G.stops gate.old }
-    ensures stopped { result ≡ Pass1.Stop → Rose (G.stops gate.old) (G.stops gate.new) }
-    ensures later { G.stops gate.old ≤ G.stops gate.new }
+    requires tagged { tagged ≡ is_some (tag_in unit.now) }
+    ensures read { IsReadIn shelf.now user.now (map (block_at unit.now) found.now.block.items)
+        (read_as unit.now result ask.new asked.new.op) }
 {
-    let tagged = tag.is_some();
     match &command_with(shelf.shape(), shelf.sid(), user, unit, found, tagged) {
-        Ok(command) => {
-            served(users, user, unit, command, ask, rt);
-            Pass1::Go
-        }
+        Ok(command) => on_command(user, unit, command, ask),
         Err(cause) => match cause {
-            Cause::UnknownCommand => hear_users(
-                shelf, users, user, unit, found, tag, ask, gate, notes, rt,
-            ),
+            Cause::UnknownCommand => read_users(shelf, user, unit, found, ask, asked),
             _ => {
                 *ask = Ask::Refused(*cause);
-                Pass1::Go
+                Meaning::Session
             }
         },
     }
 }
 
-/// What a command asks of the session.
-fn served<U: Disk + Drop, R: Wait>(
-    users: &mut UserDesk<U>,
+/// Reads a unit that may be a command of the users. The blocks are the unit's.
+fn read_users(
+    shelf: &Shelf,
     user: &SessionUser,
     unit: &[u8],
-    command: &Command,
+    found: &Blocks,
     ask: &mut Ask,
-    rt: &R,
+    asked: &mut Operation,
+) -> Meaning
+    requires short { length unit.now ≤ 2047 }
+    requires blocks { AreBlocksOf unit.now found.now.block.items }
+    ensures read { IsReadOfUsers shelf.now user.now (map (block_at unit.now) found.now.block.items)
+        (read_as unit.now result ask.new asked.new.op) }
+{
+    if is_of_users(unit, found) {
+        read_operation(shelf, user, unit, found, asked);
+        Meaning::Users
+    } else {
+        *ask = Ask::Refused(Cause::UnknownCommand);
+        Meaning::Session
+    }
+}
+
+/// Puts down what a unit asks of the users. The blocks are the unit's.
+// Apart, since an operation holds a PID, and a unit that asks for none clears no room of it.
+#[inline(never)]
+fn read_operation(
+    shelf: &Shelf,
+    user: &SessionUser,
+    unit: &[u8],
+    found: &Blocks,
+    asked: &mut Operation,
 )
+    requires short { length unit.now ≤ 2047 }
+    requires blocks { AreBlocksOf unit.now found.now.block.items }
+    ensures meaning { asked.new.op ≡ user_meaning shelf.now.sid user.now
+        (map (block_at unit.now) found.now.block.items) }
+    ensures named { IfOk asked.new.op NamesUid }
+    ensures command { IfOk asked.new.op IsCommand }
+{
+    asked.op = user_command_of(shelf.sid(), *user, unit, found);
+}
+
+/// What a command means.
+fn on_command(user: &SessionUser, unit: &[u8], command: &Command, ask: &mut Ask) -> Meaning
     requires within { (d : Dimensions) × IsAptCommand d unit.now command.now }
-    requires no_rows { users.old.rows.items ≡ [] }
-    ensures same { IsSameUserSeat users.old.seat users.new.seat }
-    ensures asked { IsAsked users.old.seat (session_wants user.now
-        (asked_by unit.now command.now))
-        (λ x. session_ask user.now x (asked_by unit.now command.now)) ask.new users.new.rows.items
-        users.new.seat.seen NothingAsked }
-    ensures apt { (d : Dimensions) → IsAptCommand d unit.now command.now → IsAptAsk d ask.new }
+    ensures read { (d : Dimensions) → (op : Result AUserOp ACause)
+        → IsAptCommand d unit.now command.now
+        → IsReadAs d user.now (session_wants user.now (asked_by unit.now command.now))
+        (λ x. session_ask user.now x (asked_by unit.now command.now))
+        (read_as unit.now result ask.new op) }
 {
     match command {
-        Command::ActUser { uid, pid } => {
-            act_user(users, user, uid.text(unit), pid.text(unit), ask, rt);
-        }
+        Command::ActUser { uid, pid } => Meaning::LogIn {
+            uid: *uid,
+            pid: *pid,
+        },
         Command::CancUser { uid } => {
-            if is_other_user(user, uid.text(unit)) {
-                *ask = Ask::Refused(Cause::OtherUser);
-            } else {
-                *ask = Ask::LogsOut;
-            }
+            on_log_out(user, uid.text(unit), ask);
+            Meaning::Session
         }
-        Command::Header => *ask = Ask::Completes,
-        Command::Allow => *ask = Ask::Allows,
-        Command::Inhibit => *ask = Ask::Inhibits,
-        Command::Show(subject) => *ask = Ask::Shows(*subject),
-        Command::Table(op) => on_table(op, ask),
+        Command::Header => {
+            *ask = Ask::Completes;
+            Meaning::Session
+        }
+        Command::Allow => {
+            *ask = Ask::Allows;
+            Meaning::Session
+        }
+        Command::Inhibit => {
+            *ask = Ask::Inhibits;
+            Meaning::Session
+        }
+        Command::Show(subject) => {
+            *ask = Ask::Shows(*subject);
+            Meaning::Session
+        }
+        Command::Table(op) => {
+            on_table(op, ask);
+            Meaning::Session
+        }
     }
 }
 
-/// Looks whom name and PID log in. A name that is too long for a user's is nobody's.
-// Apart, since the users' entries are large, and a unit that has none pays for no room of theirs.
-#[inline(never)]
-fn act_user<U: Disk + Drop, R: Wait>(
-    users: &mut UserDesk<U>,
-    user: &SessionUser,
-    uid: &[u8],
-    pid: &[u8],
-    ask: &mut Ask,
-    rt: &R,
-)
-    requires no_rows { users.old.rows.items ≡ [] }
-    ensures same { IsSameUserSeat users.old.seat users.new.seat }
-    ensures asked { IsAsked users.old.seat (login_wants user.now uid.now pid.now)
-        (λ x. log_in user.now (named_by uid.now x)) ask.new users.new.rows.items users.new.seat.seen
-        NothingAsked }
+/// A log-out, which may name a user.
+fn on_log_out(user: &SessionUser, name: &[u8], ask: &mut Ask)
+    ensures ask { (x : Heard) → ask.new ≡ session_ask user.now x (cancels name.now) }
     ensures apt { (d : Dimensions) → IsAptAsk d ask.new }
 {
-    users.secrets.hear_log_in();
-    let Some(uid) = Uid::of(uid) else {
-        *ask = Ask::Refused(Cause::BadIdentity);
-        return;
-    };
-    users.guesses.rest(rt);
-    match users.seat.login(is_vacant(user), uid, pid, rt) {
-        Some(class) => {
-            users.guesses.right();
-            *ask = log_in_as(user, upper(uid), class);
-        }
-        None => {
-            users.guesses.wrong();
-            *ask = Ask::Refused(Cause::BadIdentity);
-        }
-    }
-}
-
-/// Nobody is logged in.
-fn is_vacant(user: &SessionUser) -> bool
-    ensures { result ≡ is_not_logged_in user.now }
-{
-    matches!(user, SessionUser::Nobody)
-}
-
-/// Where nobody is logged in, the user logs in.
-fn log_in_as(user: &SessionUser, uid: Uid, class: Class) -> Ask
-    ensures ask { result ≡ log_in user.now (SessionUser.User uid class) }
-    ensures apt { (d : Dimensions) → IsAptAsk d result }
-{
-    match user {
-        SessionUser::Nobody => Ask::LogsIn(SessionUser::User { uid, class }),
-        SessionUser::User { .. } => Ask::Refused(Cause::AlreadyLoggedIn),
+    if is_other_user(user, name) {
+        *ask = Ask::Refused(Cause::OtherUser);
+    } else {
+        *ask = Ask::LogsOut;
     }
 }
 
@@ -261,9 +223,11 @@ fn on_frequent(often: Frequent, ask: &mut Ask)
     }
 }
 
-/// An operation on the table. A command never asks for a look.
+/// An operation on the table, which is no look.
 fn on_table(op: &Op, ask: &mut Ask)
-    ensures { ask.new ≡ table_ask op.now }
+    requires { (d : Dimensions) × IsAptOp d op.now }
+    ensures ask { ask.new ≡ table_ask op.now }
+    ensures apt { (d : Dimensions) → IsAptOp d op.now → IsAptAsk d ask.new }
 {
     match op {
         Op::Enter(_)
@@ -275,6 +239,6 @@ fn on_table(op: &Op, ask: &mut Ask)
         | Op::PutBack(_) => *ask = Ask::Changes(*op),
         Op::Rows(selection) => *ask = Ask::Lists(*selection),
         Op::Restart => *ask = Ask::Restarts,
-        Op::Look(_) => *ask = Ask::Refused(Cause::UnknownCommand),
+        Op::Look(_) => unreachable!(),
     }
 }

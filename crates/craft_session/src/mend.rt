@@ -1,6 +1,6 @@
 //! A restart: begun in one turn, its journal read and the rest of a work driven outside of any, and ended in another.
-ghost use Rattle.std.specs.Prelude.{◌≡◌, ◌≢◌, ◌≤◌, length};
-ghost use Rattle.dxc_causes.specs.Causes.{Rose};
+ghost use Rattle.std.specs.Prelude.{◌≡◌, length, IsErr};
+ghost use Rattle.dxc_causes.specs.Stops.{RoseOnlyFor};
 ghost use Rattle.dxc_model.specs.Steps.{IsDriven};
 ghost use Rattle.xc_core.specs.States.{opening_of};
 ghost use Rattle.xc_core.specs.Turns.{HasPass, SawNoneAstray};
@@ -13,22 +13,20 @@ ghost use Rattle.craft_session.specs.Gated.{after_journal};
 use crate::change::{Changed, roll};
 use dxc_disk::Disk;
 use dxc_model::{Cause, Op};
-use dxc_outside::{Gate, Pass1};
+use dxc_outside::{Gate, Stopped};
 use fabric_words::Fabric;
 use std::sync::Wait;
 use turnstile::{Pass, Rest, Turnstile};
 use xc_core::restarts::{Held, cut_restart, end_restart, hold};
 use xc_core::{Driver, Reread, State, read_anew, turns};
 
-/// What came of turns in which a restart was to be made.
+/// What came of turns in which a restart was to be made. Where the gate stopped, the Provisioner is home, halted.
 #[derive(Clone, Copy)]
 pub enum Mended {
     /// It was made. The Provisioner is home and ready.
     Ready,
     /// The disk failed, or the journal reads otherwise than it was written. The Provisioner is home.
     Denied(Cause),
-    /// The gate stopped. The Provisioner is home, halted.
-    Stopped,
     /// Another place has the Provisioner; or none is due any more.
     Waits,
 }
@@ -42,16 +40,14 @@ fn resume<D: Disk + Drop, G: Gate, R: Wait>(
     driver: Box<Driver<D>>,
     gate: &mut G,
     rt: &R,
-) -> Mended
+) -> Result<Mended, Stopped>
     requires pass { HasPass turns.now pass.old }
     requires fabric { (opening_of D.state turns.now.first).site.fabric ≡ fabric.now }
     requires restart { Upon D.Disk turns.now pass.old (OutToRestart D.Disk asked.now driver.value) }
     ensures pass { HasPass turns.now pass.new × (pass.new.number ≡ pass.old.number) }
     ensures mended { After D.Disk turns.now pass.old (MendsTo asked.now pass.new result) }
     ensures astray { SawNoneAstray D.told pass.new.seen }
-    ensures going { result ≢ Mended.Stopped → G.stops gate.new ≡ G.stops gate.old }
-    ensures stopped { result ≡ Mended.Stopped → Rose (G.stops gate.old) (G.stops gate.new) }
-    ensures later { G.stops gate.old ≤ G.stops gate.new }
+    ensures stopped { RoseOnlyFor (G.stops gate.old) (G.stops gate.new) (IsErr result) }
     ensures asked { RestAsked (G.asked gate.old gate.new) (length (rest_of driver.value.rolling))
         result }
     ensures entered { After D.Disk turns.now pass.old
@@ -60,13 +56,13 @@ fn resume<D: Disk + Drop, G: Gate, R: Wait>(
     let mut driver = driver;
     let held = &mut *driver;
     match roll(&mut held.p, fabric, &mut held.rolling, gate, rt) {
-        Pass1::Go => {
+        Ok(()) => {
             end_restart(pass, turns, asked, driver, rt);
-            Mended::Ready
+            Ok(Mended::Ready)
         }
-        Pass1::Stop => {
+        Err(Stopped) => {
             cut_restart(pass, turns, asked, driver, rt);
-            Mended::Stopped
+            Err(Stopped)
         }
     }
 }
@@ -81,7 +77,7 @@ fn go_on<D: Disk + Drop, G: Gate, R: Wait>(
     driver: Box<Driver<D>>,
     gate: &mut G,
     rt: &R,
-) -> Mended
+) -> Result<Mended, Stopped>
     requires pass { HasPass turns.now pass.old }
     requires fabric { (opening_of D.state turns.now.first).site.fabric ≡ fabric.now }
     requires asked { IsDriven asked.now }
@@ -89,9 +85,7 @@ fn go_on<D: Disk + Drop, G: Gate, R: Wait>(
     ensures pass { HasPass turns.now pass.new × (pass.new.number ≡ pass.old.number) }
     ensures mended { After D.Disk turns.now pass.old (MendsTo asked.now pass.new result) }
     ensures astray { SawNoneAstray D.told pass.new.seen }
-    ensures going { result ≢ Mended.Stopped → G.stops gate.new ≡ G.stops gate.old }
-    ensures stopped { result ≡ Mended.Stopped → Rose (G.stops gate.old) (G.stops gate.new) }
-    ensures later { G.stops gate.old ≤ G.stops gate.new }
+    ensures stopped { RoseOnlyFor (G.stops gate.old) (G.stops gate.new) (IsErr result) }
     ensures asked { MendAsked (G.asked gate.old gate.new) result }
     ensures entered { After D.Disk turns.now pass.old
         (AsksOut (G.asked gate.old gate.new) pass.new) }
@@ -99,17 +93,17 @@ fn go_on<D: Disk + Drop, G: Gate, R: Wait>(
     let mut driver = driver;
     let held = &mut *driver;
     match read_anew(&mut held.p, fabric, asked, gate) {
-        Reread::Warm(rolling) => {
+        Ok(Reread::Warm(rolling)) => {
             held.rolling = rolling;
             resume(pass, turns, fabric, asked, driver, gate, rt)
         }
-        Reread::Failed(cause) => {
+        Ok(Reread::Failed(cause)) => {
             turns::fail(pass, turns, asked, cause, driver, rt);
-            Mended::Denied(cause)
+            Ok(Mended::Denied(cause))
         }
-        Reread::Stopped => {
+        Err(Stopped) => {
             cut_restart(pass, turns, asked, driver, rt);
-            Mended::Stopped
+            Err(Stopped)
         }
     }
 }
@@ -122,7 +116,7 @@ pub fn mend<D: Disk + Drop, G: Gate, R: Wait>(
     asked: &Op,
     gate: &mut G,
     rt: &R,
-) -> Mended
+) -> Result<Mended, Stopped>
     requires pass { HasPass turns.now pass.old }
     requires fabric { (opening_of D.state turns.now.first).site.fabric ≡ fabric.now }
     requires asked { IsDriven asked.now }
@@ -130,16 +124,14 @@ pub fn mend<D: Disk + Drop, G: Gate, R: Wait>(
     ensures pass { HasPass turns.now pass.new × (pass.new.number ≡ pass.old.number) }
     ensures mended { After D.Disk turns.now pass.old (MendsTo asked.now pass.new result) }
     ensures astray { SawNoneAstray D.told pass.new.seen }
-    ensures going { result ≢ Mended.Stopped → G.stops gate.new ≡ G.stops gate.old }
-    ensures stopped { result ≡ Mended.Stopped → Rose (G.stops gate.old) (G.stops gate.new) }
-    ensures later { G.stops gate.old ≤ G.stops gate.new }
+    ensures stopped { RoseOnlyFor (G.stops gate.old) (G.stops gate.new) (IsErr result) }
     ensures asked { MendAsked (G.asked gate.old gate.new) result }
     ensures entered { After D.Disk turns.now pass.old
         (AsksFor (G.asked gate.old gate.new) pass.new) }
 {
     match hold(pass, turns, asked, rt) {
         Held::Held(driver) => go_on(pass, turns, fabric, asked, driver, gate, rt),
-        Held::Waits => Mended::Waits,
+        Held::Waits => Ok(Mended::Waits),
     }
 }
 
@@ -151,26 +143,23 @@ pub fn warm_restart<D: Disk + Drop, G: Gate, R: Wait>(
     fabric: &Fabric,
     gate: &mut G,
     rt: &R,
-) -> Changed
+) -> Result<Changed, Stopped>
     requires pass { HasPass turns.now pass.old }
     requires fabric { (opening_of D.state turns.now.first).site.fabric ≡ fabric.now }
     requires seen { HasSeen D.Disk turns.now pass.old }
     ensures pass { HasPass turns.now pass.new × (pass.new.number ≡ pass.old.number) }
     ensures restarted { After D.Disk turns.now pass.old (RestartsTo pass.new result) }
     ensures astray { SawNoneAstray D.told pass.new.seen }
-    ensures done { result ≢ Changed.Stopped → G.stops gate.new ≡ G.stops gate.old }
-    ensures stopped { result ≡ Changed.Stopped → Rose (G.stops gate.old) (G.stops gate.new) }
-    ensures later { G.stops gate.old ≤ G.stops gate.new }
+    ensures stopped { RoseOnlyFor (G.stops gate.old) (G.stops gate.new) (IsErr result) }
     ensures asked { WarmAsked (G.asked gate.old gate.new) result }
     ensures entered { After D.Disk turns.now pass.old
         (AsksFor (G.asked gate.old gate.new) pass.new) }
 {
     let mut rest = Rest::new();
     for _ in rt.forever() {
-        match mend(pass, turns, fabric, &Op::Restart, gate, rt) {
-            Mended::Ready => return Changed::Done,
-            Mended::Denied(cause) => return Changed::Denied(cause),
-            Mended::Stopped => return Changed::Stopped,
+        match mend(pass, turns, fabric, &Op::Restart, gate, rt)? {
+            Mended::Ready => return Ok(Changed::Done),
+            Mended::Denied(cause) => return Ok(Changed::Denied(cause)),
             Mended::Waits => rest.again(0, rt),
         }
     }

@@ -12,7 +12,7 @@ use dxc_notes::{
 use dxc_num::{Port, Shape};
 use tl1_command::Subject;
 use tl1_text::Ctag;
-use user_admin::UserOp;
+use tl1_users::UserOp;
 
 /// Notes what came of what a unit of this user asked, where that is noted, and asks what stands of the program, where the unit does. The ports are of
 /// this shape.

@@ -60,7 +60,7 @@ impl Patience {
     }
 }
 
-/// How long nobody has been logged in, behind one more read, which counts so much and began with this user logged in.
+/// How long nobody has been logged in, after one more read, which counts so much and began with this user logged in.
 pub(crate) fn waited_after(user: SessionUser, waited: u16, read: u16) -> u16
     ensures { result ≡ after user waited read }
 {
@@ -70,7 +70,7 @@ pub(crate) fn waited_after(user: SessionUser, waited: u16, read: u16) -> u16
     }
 }
 
-/// How many reads in a row brought nothing, behind one more, which counts so much.
+/// How many reads in a row brought nothing, after one more, which counts so much.
 pub(crate) fn silent_after(silent: u64, read: u16) -> u64
     requires { silent < 2 ^ 32 }
     ensures { result ≡ silence_after silent read }

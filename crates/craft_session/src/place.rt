@@ -9,9 +9,10 @@ use crate::attending::Attending;
 use crate::desk::Desk;
 use crate::guesses::Guesses;
 use crate::seat::Seat;
-use crate::secrets::Secrets;
+use crate::secrets::{Operation, Secrets};
 use crate::users::{UserDesk, UserSeat};
 use arrayvec::ArrayVec;
+use dbchg_reports::KEPT;
 use dxc_causes::NoMemory;
 use dxc_disk::Disk;
 use dxc_model::{Change, Conn, SessionUser};
@@ -29,9 +30,6 @@ use xc_core::State;
 
 /// The most bytes of one read.
 const PIECE: usize = 4096;
-
-/// The most changes that reports are made of.
-const KEPT: usize = 1024;
 
 /// What the sessions of one place need: the shelf, its seats at the state and at the users, and all buffers. Contracts see
 /// shelf and seats.
@@ -102,6 +100,7 @@ impl<D: Disk + Drop, U: Disk + Drop> Place<D, U> {
             rows: ArrayVec::new(),
             guesses: Guesses::new(),
             secrets: Secrets::new(),
+            asked: Operation::new(),
         };
         let attending = Attending {
             user: SessionUser::Nobody,

@@ -2,7 +2,7 @@
 ghost use Rattle.std.specs.Prelude.{◌≡◌, ◌≤◌, length, map, option_to_list};
 ghost use Rattle.tl1_answer.specs.Blocks.{IsUnended, IsBegun};
 ghost use Rattle.tl1_answer.specs.Texts.{start_text as text_of_start};
-ghost use Rattle.craft_session.specs.Responses.{Adds, logged_in_text, program_lines, standby_text as text_of_standby, start_lines, state_lines, state_text as text_of_state, version_text as text_of_version};
+ghost use Rattle.craft_session.specs.Responses.{Adds, addition, logged_in_text, program_lines, standby_text as text_of_standby, start_lines, state_lines, state_text as text_of_state, version_text as text_of_version};
 
 use crate::say::{add_line, class_byte};
 use arrayvec::ArrayVec;
@@ -21,8 +21,7 @@ fn add_version<K: Link>(
     requires begun { IsBegun answer.old }
     requires short { length answer.old.head ≤ 64 }
     ensures filled { Adds K.told (K.state link.old) (K.state link.new)
-        (record { sent = result; old = answer.old; new = answer.new })
-        (map text_of_version (option_to_list version)) }
+        (addition result answer.old answer.new) (map text_of_version (option_to_list version)) }
     ensures hung_up { K.hung_up link.new ≡ K.hung_up link.old }
 {
     match version {
@@ -45,8 +44,7 @@ fn add_start<K: Link>(
     requires begun { IsBegun answer.old }
     requires short { length answer.old.head ≤ 64 }
     ensures filled { Adds K.told (K.state link.old) (K.state link.new)
-        (record { sent = result; old = answer.old; new = answer.new })
-        (map text_of_start (option_to_list since)) }
+        (addition result answer.old answer.new) (map text_of_start (option_to_list since)) }
     ensures hung_up { K.hung_up link.new ≡ K.hung_up link.old }
 {
     match since {
@@ -81,8 +79,7 @@ fn add_standby<K: Link>(
     requires begun { IsBegun answer.old }
     requires short { length answer.old.head ≤ 64 }
     ensures filled { Adds K.told (K.state link.old) (K.state link.new)
-        (record { sent = result; old = answer.old; new = answer.new })
-        (map text_of_standby (option_to_list standby)) }
+        (addition result answer.old answer.new) (map text_of_standby (option_to_list standby)) }
     ensures hung_up { K.hung_up link.new ≡ K.hung_up link.old }
 {
     match standby {
@@ -117,8 +114,7 @@ fn add_sessions<K: Link>(
     requires begun { IsBegun answer.old }
     requires short { length answer.old.head ≤ 64 }
     ensures filled { Adds K.told (K.state link.old) (K.state link.new)
-        (record { sent = result; old = answer.old; new = answer.new })
-        (map logged_in_text sessions.now) }
+        (addition result answer.old answer.new) (map logged_in_text sessions.now) }
     ensures hung_up { K.hung_up link.new ≡ K.hung_up link.old }
 {
     for at in 0..sessions.len() {
@@ -142,8 +138,7 @@ fn add_starts<K: Link>(
     requires begun { IsBegun answer.old }
     requires short { length answer.old.head ≤ 64 }
     ensures filled { Adds K.told (K.state link.old) (K.state link.new)
-        (record { sent = result; old = answer.old; new = answer.new })
-        (start_lines standing.now) }
+        (addition result answer.old answer.new) (start_lines standing.now) }
     ensures hung_up { K.hung_up link.new ≡ K.hung_up link.old }
 {
     match add_version(answer, text, link, standing.version) {
@@ -163,8 +158,7 @@ fn add_states<K: Link>(
     requires begun { IsBegun answer.old }
     requires short { length answer.old.head ≤ 64 }
     ensures filled { Adds K.told (K.state link.old) (K.state link.new)
-        (record { sent = result; old = answer.old; new = answer.new })
-        (state_lines standing.now) }
+        (addition result answer.old answer.new) (state_lines standing.now) }
     ensures hung_up { K.hung_up link.new ≡ K.hung_up link.old }
 {
     match add_starts(answer, text, link, standing) {
@@ -184,8 +178,7 @@ pub fn add_program<K: Link>(
     requires begun { IsBegun answer.old }
     requires short { length answer.old.head ≤ 64 }
     ensures filled { Adds K.told (K.state link.old) (K.state link.new)
-        (record { sent = result; old = answer.old; new = answer.new })
-        (program_lines standing.now) }
+        (addition result answer.old answer.new) (program_lines standing.now) }
     ensures hung_up { K.hung_up link.new ≡ K.hung_up link.old }
 {
     match add_states(answer, text, link, standing) {

@@ -1,27 +1,21 @@
 //! Reports of what changed, each with the next moment.
-ghost use Rattle.std.specs.Prelude.{◌≡◌, ◌≢◌, ◌≤◌, ◌<◌, ◌^◌, false, Some, is_some, ℕ, ◌+◌, List, length, slice_index_or};
+ghost use Rattle.std.specs.Prelude.{◌≡◌, ◌≤◌, ◌<◌, ◌^◌, Ok, Some, ℕ, ◌+◌, List, length, slice_index_or};
 ghost use Rattle.std.specs.Arc.{arc_value};
 ghost use Rattle.std.specs.List.{AllByRecursion};
-ghost use Rattle.dxc_outside.specs.declared.clock.Moment.{Moment};
-ghost use Rattle.dxc_outside.specs.Links.{LinkState};
-ghost use Rattle.dxc_model.specs.declared.entry.Entry.{Entry};
 ghost use Rattle.dxc_model.specs.declared.op.Change.{Change};
-ghost use Rattle.tl1_text.specs.declared.reader.UnitKind.TheVariants.{More};
 ghost use Rattle.tl1_text.specs.Reading.{Reader};
 ghost use Rattle.tl1_answer.specs.Texts.{IsChangeOf};
 ghost use Rattle.tl1_answer.specs.Messages.{report as whole_report};
-ghost use Rattle.xc_core.specs.Seeing.{Saw};
-ghost use Rattle.dxc_model.specs.declared.user.SessionUser.{SessionUser as AUser};
-ghost use Rattle.craft_session.specs.Meanings.{language, language_for};
+ghost use Rattle.craft_session.specs.Meanings.{language};
 ghost use Rattle.craft_session.specs.Notices.{change, found_notices, lead, numbered};
 ghost use Rattle.craft_session.specs.Responses.{lost_text as text_of_lost};
-ghost use Rattle.craft_session.specs.Desks.{now};
-ghost use Rattle.craft_session.specs.Gated.{Entered, NothingAsked};
+ghost use Rattle.craft_session.specs.Gated.{AreStateEntered, NothingAsked};
+ghost use Rattle.craft_session.specs.Gathered.{GoesBetween, ReportedBetween, TimelyBetween, ToldBetween, desk_at, to_report};
 ghost use Rattle.craft_session.specs.Noted.{HasLooked};
 ghost use Rattle.craft_session.specs.Seats.{IsSameSeat};
-ghost use Rattle.craft_session.specs.Sessions.{AreTold, Beginning, IsAt, IsReported, Writes, Stands, Goes};
+ghost use Rattle.craft_session.specs.Sessions.{Writes};
 ghost use Rattle.craft_session.specs.Stamps.{AreStamped, stamp_at};
-ghost use Rattle.craft_session.specs.Timely.{IsTimelyFrom, in_hand, reached, telling};
+ghost use Rattle.craft_session.specs.Timely.{telling};
 
 use crate::desk::Desk;
 use crate::end::Progress;
@@ -48,20 +42,17 @@ pub fn report<K: Link, C: Timestamps, D: Disk + Drop, U: Disk + Drop, R: Wait>(
     ensures reader { desk.new.reader ≡ desk.old.reader }
     ensures link { Writes K.told (K.state link.old) (K.state link.new) }
     ensures hung_up { K.hung_up link.new ≡ K.hung_up link.old }
-    ensures goes { (first : AUser) → (k : LinkState) → (c : List Moment) → (b : Beginning)
-        → (r : Reader) → (ahead : List ℕ) → IsAt b desk.old.seat desk.old.users.seat
-        → Stands (language_for first (arc_value desk.old.shelf)) K.told C.told k (K.state link.old)
-        c (C.coming clock.old) b (now desk.old) (is_some desk.old.attending.watch) More r ahead
-        → Goes (language_for first (arc_value desk.old.shelf)) K.told C.told k (K.state link.new) c
-        (C.coming clock.new) b (now desk.new) result false r ahead }
-    ensures timely { (r : Reader) → (ahead : List ℕ) → IsTimelyFrom (arc_value desk.old.shelf)
+    ensures goes { (r : Reader) → (ahead : List ℕ) → GoesBetween
         (telling K.told C.told C.stamped)
-        (stamp_at (C.coming clock.old) (K.state link.old) desk.old.seat desk.old.users.seat)
-        (in_hand desk.old.attending (is_some desk.old.attending.watch) More r ahead)
-        (reached (K.state link.new).written desk.new.seat.seen desk.new.users.seat.seen) }
-    ensures unstopped { result ≢ Progress.Stopped }
-    ensures entered { (h : List Entry) → Saw desk.old.seat.opening desk.old.seat.seen h → Entered
-        desk.old.seat.opening desk.old.seat.place NothingAsked false false h desk.new.seat.seen }
+        (desk_at (K.state link.old) (C.coming clock.old) desk.old)
+        (desk_at (K.state link.new) (C.coming clock.new) desk.new)
+        (to_report desk.old.attending r ahead) (Ok result) }
+    ensures timely { (r : Reader) → (ahead : List ℕ) → TimelyBetween
+        (telling K.told C.told C.stamped)
+        (desk_at (K.state link.old) (C.coming clock.old) desk.old)
+        (desk_at (K.state link.new) (C.coming clock.new) desk.new)
+        (to_report desk.old.attending r ahead) }
+    ensures entered { AreStateEntered desk.old.seat NothingAsked desk.new.seat.seen }
     ensures looked { HasLooked desk.old.seat desk.new.seat.seen }
     ensures user { desk.new.attending.user ≡ desk.old.attending.user }
 {
@@ -71,7 +62,7 @@ pub fn report<K: Link, C: Timestamps, D: Disk + Drop, U: Disk + Drop, R: Wait>(
     }
 }
 
-/// Looks for changes behind the cursor, and writes a report of each, with the next moments.
+/// Looks for changes after the cursor, and writes a report of each, with the next moments.
 // Apart, since a session without reports clears no room of a look.
 #[inline(never)]
 fn report_since<K: Link, C: Timestamps, D: Disk + Drop, U: Disk + Drop, R: Wait>(
@@ -88,20 +79,17 @@ fn report_since<K: Link, C: Timestamps, D: Disk + Drop, U: Disk + Drop, R: Wait>
     ensures reader { desk.new.reader ≡ desk.old.reader }
     ensures link { Writes K.told (K.state link.old) (K.state link.new) }
     ensures hung_up { K.hung_up link.new ≡ K.hung_up link.old }
-    ensures goes { (first : AUser) → (k : LinkState) → (c : List Moment) → (b : Beginning)
-        → (r : Reader) → (ahead : List ℕ) → IsAt b desk.old.seat desk.old.users.seat
-        → Stands (language_for first (arc_value desk.old.shelf)) K.told C.told k (K.state link.old)
-        c (C.coming clock.old) b (now desk.old) (is_some desk.old.attending.watch) More r ahead
-        → Goes (language_for first (arc_value desk.old.shelf)) K.told C.told k (K.state link.new) c
-        (C.coming clock.new) b (now desk.new) result false r ahead }
-    ensures timely { (r : Reader) → (ahead : List ℕ) → IsTimelyFrom (arc_value desk.old.shelf)
+    ensures goes { (r : Reader) → (ahead : List ℕ) → GoesBetween
         (telling K.told C.told C.stamped)
-        (stamp_at (C.coming clock.old) (K.state link.old) desk.old.seat desk.old.users.seat)
-        (in_hand desk.old.attending (is_some desk.old.attending.watch) More r ahead)
-        (reached (K.state link.new).written desk.new.seat.seen desk.new.users.seat.seen) }
-    ensures unstopped { result ≢ Progress.Stopped }
-    ensures entered { (h : List Entry) → Saw desk.old.seat.opening desk.old.seat.seen h → Entered
-        desk.old.seat.opening desk.old.seat.place NothingAsked false false h desk.new.seat.seen }
+        (desk_at (K.state link.old) (C.coming clock.old) desk.old)
+        (desk_at (K.state link.new) (C.coming clock.new) desk.new)
+        (to_report desk.old.attending r ahead) (Ok result) }
+    ensures timely { (r : Reader) → (ahead : List ℕ) → TimelyBetween
+        (telling K.told C.told C.stamped)
+        (desk_at (K.state link.old) (C.coming clock.old) desk.old)
+        (desk_at (K.state link.new) (C.coming clock.new) desk.new)
+        (to_report desk.old.attending r ahead) }
+    ensures entered { AreStateEntered desk.old.seat NothingAsked desk.new.seat.seen }
     ensures looked { HasLooked desk.old.seat desk.new.seat.seen }
     ensures user { desk.new.attending.user ≡ desk.old.attending.user }
 {
@@ -127,8 +115,9 @@ fn tell<K: Link, C: Timestamps, D: Disk + Drop, U: Disk + Drop>(
     ensures attending { desk.new.attending ≡ desk.old.attending }
     ensures reader { desk.new.reader ≡ desk.old.reader }
     ensures hung_up { K.hung_up link.new ≡ K.hung_up link.old }
-    ensures told { AreTold (language (arc_value desk.old.shelf)) K.told C.told (K.state link.old)
-        (K.state link.new) (C.coming clock.old) (C.coming clock.new) result
+    ensures told { ToldBetween (telling K.told C.told C.stamped)
+        (desk_at (K.state link.old) (C.coming clock.old) desk.old)
+        (desk_at (K.state link.new) (C.coming clock.new) desk.new) result
         (found_notices looked.since looked.newest desk.old.changes.items) }
     ensures stamped { AreStamped C.stamped
         (stamp_at (C.coming clock.old) (K.state link.old) desk.old.seat desk.old.users.seat)
@@ -156,8 +145,10 @@ fn tell_lost<K: Link, C: Timestamps, D: Disk + Drop, U: Disk + Drop>(
     ensures reader { desk.new.reader ≡ desk.old.reader }
     ensures hung_up { K.hung_up link.new ≡ K.hung_up link.old }
     ensures changes { desk.new.changes ≡ desk.old.changes }
-    ensures told { AreTold (language (arc_value desk.old.shelf)) K.told C.told (K.state link.old)
-        (K.state link.new) (C.coming clock.old) (C.coming clock.new) result (lead since before) }
+    ensures told { ToldBetween (telling K.told C.told C.stamped)
+        (desk_at (K.state link.old) (C.coming clock.old) desk.old)
+        (desk_at (K.state link.new) (C.coming clock.new) desk.new) result
+        (lead since before) }
     ensures stamped { AreStamped C.stamped
         (stamp_at (C.coming clock.old) (K.state link.old) desk.old.seat desk.old.users.seat)
         (K.state link.new) (C.coming clock.new) }
@@ -171,7 +162,7 @@ fn tell_lost<K: Link, C: Timestamps, D: Disk + Drop, U: Disk + Drop>(
     }
 }
 
-/// Writes a report of each change, numbered from the one behind `before`.
+/// Writes a report of each change, numbered from the one after `before`.
 fn tell_changes<K: Link, C: Timestamps, D: Disk + Drop, U: Disk + Drop>(
     desk: &mut Desk<D, U>,
     link: &mut K,
@@ -187,8 +178,9 @@ fn tell_changes<K: Link, C: Timestamps, D: Disk + Drop, U: Disk + Drop>(
     ensures attending { desk.new.attending ≡ desk.old.attending }
     ensures reader { desk.new.reader ≡ desk.old.reader }
     ensures hung_up { K.hung_up link.new ≡ K.hung_up link.old }
-    ensures told { AreTold (language (arc_value desk.old.shelf)) K.told C.told (K.state link.old)
-        (K.state link.new) (C.coming clock.old) (C.coming clock.new) result
+    ensures told { ToldBetween (telling K.told C.told C.stamped)
+        (desk_at (K.state link.old) (C.coming clock.old) desk.old)
+        (desk_at (K.state link.new) (C.coming clock.new) desk.new) result
         (numbered before desk.old.changes.items) }
     ensures stamped { AreStamped C.stamped
         (stamp_at (C.coming clock.old) (K.state link.old) desk.old.seat desk.old.users.seat)
@@ -222,9 +214,10 @@ fn tell_change<K: Link, C: Timestamps, D: Disk + Drop, U: Disk + Drop>(
     ensures reader { desk.new.reader ≡ desk.old.reader }
     ensures hung_up { K.hung_up link.new ≡ K.hung_up link.old }
     ensures changes { desk.new.changes ≡ desk.old.changes }
-    ensures told { (d : Change)
-        → IsReported K.told C.told (K.state link.old) (K.state link.new) (C.coming clock.old)
-        (C.coming clock.new) result (λ m. (language (arc_value desk.old.shelf)).report m
+    ensures told { (d : Change) → ReportedBetween (telling K.told C.told C.stamped)
+        (desk_at (K.state link.old) (C.coming clock.old) desk.old)
+        (desk_at (K.state link.new) (C.coming clock.new) desk.new) result
+        (λ m. (language (arc_value desk.old.shelf)).report m
         (change (before + at + 1) (slice_index_or desk.old.changes.items at d))) }
     ensures stamped { C.stamped (stamp_at (C.coming clock.old) (K.state link.old) desk.old.seat
         desk.old.users.seat) }
@@ -247,8 +240,9 @@ fn tell_one<K: Link, C: Timestamps, D: Disk + Drop, U: Disk + Drop>(
     ensures reader { desk.new.reader ≡ desk.old.reader }
     ensures hung_up { K.hung_up link.new ≡ K.hung_up link.old }
     ensures changes { desk.new.changes ≡ desk.old.changes }
-    ensures told { IsReported K.told C.told (K.state link.old) (K.state link.new)
-        (C.coming clock.old) (C.coming clock.new) result
+    ensures told { ReportedBetween (telling K.told C.told C.stamped)
+        (desk_at (K.state link.old) (C.coming clock.old) desk.old)
+        (desk_at (K.state link.new) (C.coming clock.new) desk.new) result
         (λ m. whole_report (arc_value desk.old.shelf).sid m number desk.old.text.items) }
     ensures stamped { C.stamped (stamp_at (C.coming clock.old) (K.state link.old) desk.old.seat
         desk.old.users.seat) }

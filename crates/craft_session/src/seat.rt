@@ -1,24 +1,25 @@
-ghost use Rattle.std.specs.Prelude.{◌≡◌, ◌≢◌, ◌≤◌, false, List, length, vec_capacity};
+ghost use Rattle.std.specs.Prelude.{◌≡◌, ◌≤◌, List, length, vec_capacity, IsErr};
 ghost use Rattle.std.specs.Arc.{arc_value};
 ghost use Rattle.std.specs.List.{AllByRecursion};
 ghost use Rattle.tl1_answer.specs.Texts.{IsChangeOf, IsOfShape};
-ghost use Rattle.dxc_causes.specs.Causes.{Rose};
+ghost use Rattle.dxc_causes.specs.Stops.{RoseOnlyFor};
 ghost use Rattle.dxc_num.specs.Dimensions.{ports};
 ghost use Rattle.dxc_model.specs.declared.entry.Entry.{Entry};
 ghost use Rattle.dxc_model.specs.Histories.{kept};
 ghost use Rattle.dxc_model.specs.Operations.{IsApt};
 ghost use Rattle.xc_core.specs.Seeing.{Saw};
-ghost use Rattle.xc_core.specs.Turns.{AreNumbered, HasPass, InventoryIs, IsInventoryOf, LookIs, MarkIs, RowsAre, SawNoneAstray};
+ghost use Rattle.xc_core.specs.Turns.{AreNumbered, HasPass, InventoryIs, IsInventoryOf, MarkIs, SawNoneAstray};
 ghost use Rattle.craft_session.specs.Askings.{ChangeAsked, WarmAsked};
-ghost use Rattle.craft_session.specs.Changing.{ChangedIs, WarmRestartIs};
-ghost use Rattle.craft_session.specs.Gated.{Entered};
+ghost use Rattle.craft_session.specs.Changing.{WarmRestartIs};
+ghost use Rattle.craft_session.specs.Gated.{AreStateEntered};
 ghost use Rattle.craft_session.specs.Seats.{IsSameSeat, IsSeated, seat_at};
+ghost use Rattle.craft_session.specs.Turns.{Changes, Finds, Lists};
 
 use crate::change::{Changed, change_in_line};
 use crate::mend::warm_restart;
 use dxc_disk::Disk;
 use dxc_model::{Change, Conn, Op, Selection};
-use dxc_outside::Gate;
+use dxc_outside::{Gate, Stopped};
 use fabric_words::Fabric;
 use std::marker::Model;
 use std::sync::{Arc, Wait};
@@ -91,8 +92,7 @@ impl<D: Disk + Drop> Seat<D> {
     pub fn rows<R: Wait>(&mut self, selection: Selection, into: &mut Vec<Conn>, rt: &R)
         requires room { ports self.old.opening.first.fold.table.shape ≤ vec_capacity into.old }
         ensures same { IsSameSeat self.old self.new }
-        ensures rows { (h : List Entry) → Saw self.old.opening self.old.seen h
-            → RowsAre self.old.opening self.old.place h selection self.new.seen into.new.items }
+        ensures rows { Lists self.old selection self.new.seen into.new.items }
         ensures of_shape { AllByRecursion (IsOfShape self.old.opening.first.fold.table.shape)
             into.new.items }
         ensures room { vec_capacity into.new ≡ vec_capacity into.old }
@@ -104,8 +104,7 @@ impl<D: Disk + Drop> Seat<D> {
     pub fn look<R: Wait>(&mut self, cursor: u64, into: &mut Vec<Change>, rt: &R) -> Looked
         requires room { kept ≤ vec_capacity into.old }
         ensures same { IsSameSeat self.old self.new }
-        ensures look { (h : List Entry) → Saw self.old.opening self.old.seen h
-            → LookIs self.old.opening self.old.place h cursor self.new.seen result into.new.items }
+        ensures look { Finds self.old cursor self.new.seen result into.new.items }
         ensures few { length into.new.items ≤ result.newest }
         ensures of_shape { AllByRecursion (IsChangeOf self.old.opening.first.fold.table.shape)
             into.new.items }
@@ -139,17 +138,13 @@ impl<D: Disk + Drop> Seat<D> {
     }
 
     /// Makes a restart. It waits in the line of those who change something, and for frames in the way.
-    pub fn restart<G: Gate, R: Wait>(&mut self, gate: &mut G, rt: &R) -> Changed
+    pub fn restart<G: Gate, R: Wait>(&mut self, gate: &mut G, rt: &R) -> Result<Changed, Stopped>
         ensures same { IsSameSeat self.old self.new }
         ensures restarted { (h : List Entry) → Saw self.old.opening self.old.seen h
             → WarmRestartIs self.old.opening self.old.place h self.new.seen result }
-        ensures done { result ≢ Changed.Stopped → G.stops gate.new ≡ G.stops gate.old }
-        ensures stopped { result ≡ Changed.Stopped → Rose (G.stops gate.old) (G.stops gate.new) }
-        ensures later { G.stops gate.old ≤ G.stops gate.new }
+        ensures stopped { RoseOnlyFor (G.stops gate.old) (G.stops gate.new) (IsErr result) }
         ensures asked { WarmAsked (G.asked gate.old gate.new) result }
-        ensures entered { (h : List Entry) → Saw self.old.opening self.old.seen h
-            → Entered self.old.opening self.old.place (G.asked gate.old gate.new) false false h
-            self.new.seen }
+        ensures entered { AreStateEntered self.old (G.asked gate.old gate.new) self.new.seen }
     {
         let turns: &Turnstile<State<D>> = &self.turns;
         turns.stand_in_line(rt);
@@ -161,18 +156,18 @@ impl<D: Disk + Drop> Seat<D> {
     /// Makes a change of the table, and of the registers before it. It waits in the line of those who change something, and for frames in the way; what
     /// the table denies meanwhile waits for the turn alone.
     #[inline(never)]
-    pub fn change<G: Gate, R: Wait>(&mut self, op: &Op, gate: &mut G, rt: &R) -> Changed
+    pub fn change<G: Gate, R: Wait>(
+        &mut self,
+        op: &Op,
+        gate: &mut G,
+        rt: &R,
+    ) -> Result<Changed, Stopped>
         requires apt { IsApt self.old.opening.first.fold.table.shape op.now }
         ensures same { IsSameSeat self.old self.new }
-        ensures changed { (h : List Entry) → Saw self.old.opening self.old.seen h
-            → ChangedIs self.old.opening self.old.place h op.now self.new.seen result }
-        ensures done { result ≢ Changed.Stopped → G.stops gate.new ≡ G.stops gate.old }
-        ensures stopped { result ≡ Changed.Stopped → Rose (G.stops gate.old) (G.stops gate.new) }
-        ensures later { G.stops gate.old ≤ G.stops gate.new }
+        ensures changed { Changes self.old op.now self.new.seen result }
+        ensures stopped { RoseOnlyFor (G.stops gate.old) (G.stops gate.new) (IsErr result) }
         ensures asked { ChangeAsked (G.asked gate.old gate.new) result }
-        ensures entered { (h : List Entry) → Saw self.old.opening self.old.seen h
-            → Entered self.old.opening self.old.place (G.asked gate.old gate.new) false false h
-            self.new.seen }
+        ensures entered { AreStateEntered self.old (G.asked gate.old gate.new) self.new.seen }
     {
         let turns: &Turnstile<State<D>> = &self.turns;
         change_in_line(&mut self.pass, turns, &self.fabric, op, gate, rt)

@@ -1,5 +1,11 @@
-//! What held a PID is written over behind the read that brought it. No clause tells of it.
+//! What held a PID is written over after the read that brought it. No clause tells of it.
+ghost use Rattle.std.specs.Prelude.{◌≡◌};
+
+use arrayvec::ArrayVec;
+use dxc_model::{Cause, Uid};
+use std::mem;
 use std::sync::atomic::AtomicU64;
+use tl1_users::{Pid, UserOp};
 
 // So much of the stack is in use below a session that hashes a PID where it stands, with room to spare.
 const FEW_WORDS: usize = 1024;
@@ -47,6 +53,42 @@ impl Secrets {
         self.heard = Heard::Nothing;
         heard
     }
+}
+
+/// What a unit asks of the users, or why it is refused that. It has room for PIDs.
+#[derive(Drop)]
+pub struct Operation {
+    pub op: Result<UserOp, Cause>,
+}
+
+impl Operation {
+    /// None is asked yet.
+    pub fn new() -> Operation {
+        Operation {
+            op: Err(Cause::UnknownCommand),
+        }
+    }
+
+    /// Takes it out, to be made.
+    pub fn take(&mut self) -> Result<UserOp, Cause>
+        ensures { result ≡ self.old.op }
+    {
+        mem::replace(&mut self.op, Err(Cause::UnknownCommand))
+    }
+
+    /// Writes over what it has kept of PIDs: by an operation as large as any, without one.
+    #[inline(never)]
+    pub fn wipe(&mut self) {
+        self.op = Ok(UserOp::EditPid {
+            uid: Uid::default(),
+            old: blank(),
+            new: blank(),
+        });
+    }
+}
+
+fn blank() -> Pid {
+    ArrayVec::from([0; 2048])
 }
 
 // Parts of the stack, each with a word that the system is told of.

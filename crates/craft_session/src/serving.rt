@@ -64,7 +64,7 @@ pub fn serve_session_of<K: Link, C: Timestamps, G: Gate, D: Disk + Drop, U: Disk
     )
 }
 
-/// Serves the link as `serve_session` does, and lets it go once nobody has been logged in for a minute of silence: behind 300 reads in which nothing
+/// Serves the link as `serve_session` does, and lets it go once nobody has been logged in for a minute of silence: after 300 reads in which nothing
 /// came, or more where some brought bytes, of which 16 count as one of these. It also lets go who is logged in and silent for longer than the shelf
 /// allows one of the class. Its log-ins, log-outs, changes and restarts are noted, and what came of each.
 pub fn serve_caller<

@@ -1,21 +1,18 @@
-ghost use Rattle.std.specs.Prelude.{◌≡◌, ◌≢◌, ◌≤◌, ◌<◌, ◌+◌, ◌^◌, ◌↔◌, false, List, [], length, take, IsTrue};
+ghost use Rattle.std.specs.Prelude.{◌≡◌, ◌≢◌, ◌≤◌, ◌<◌, ◌+◌, ◌^◌, ◌↔◌, false, List, [], length, take, IsErr, IsTrue};
 ghost use Rattle.dxc_causes.specs.Causes.{Rose, Counted};
-ghost use Rattle.dxc_outside.specs.declared.clock.Moment.{Moment};
+ghost use Rattle.dxc_causes.specs.Stops.{RoseOnlyFor};
 ghost use Rattle.dxc_model.specs.declared.user.SessionUser.{SessionUser as AUser};
-ghost use Rattle.dxc_outside.specs.Links.{LinkState};
-ghost use Rattle.tl1_text.specs.declared.reader.UnitKind.TheVariants.{More};
 ghost use Rattle.tl1_text.specs.Reading.{Holds, hand};
 ghost use Rattle.std.specs.Arc.{arc_value};
 ghost use Rattle.craft_session.specs.Cancelling.{IsHeeding};
 ghost use Rattle.craft_session.specs.Gated.{AreEntered};
+ghost use Rattle.craft_session.specs.Gathered.{GoesOver, NotedBetween, PromptBetween, ServedBetween, TimelyOver, desk_at};
 ghost use Rattle.craft_session.specs.Meanings.{language_for};
-ghost use Rattle.craft_session.specs.Desks.{now, place_of};
-ghost use Rattle.craft_session.specs.Noted.{HasNoted, stood};
-ghost use Rattle.craft_session.specs.Pieces.{GoesOver, desk_at};
+ghost use Rattle.craft_session.specs.Desks.{place_of};
 ghost use Rattle.craft_session.specs.Seats.{IsSameSeat, IsSameUserSeat};
-ghost use Rattle.craft_session.specs.Sessions.{Beginning, IsAt, Writes, Stands, Goes, IsPrompt, IsServed};
+ghost use Rattle.craft_session.specs.Sessions.{Writes};
 ghost use Rattle.craft_session.specs.Stamps.{stamp_at};
-ghost use Rattle.craft_session.specs.Timely.{IsTimelyFrom, WasTimely, in_hand, reached, telling};
+ghost use Rattle.craft_session.specs.Timely.{WasTimely, reached, telling};
 ghost use Rattle.craft_session.specs.Idling.{IsAwake, IsIdle};
 ghost use Rattle.craft_session.specs.Waiting.{IsLetGo, IsUnattended};
 ghost use Rattle.craft_session.specs.Walks.{begun_by};
@@ -30,12 +27,11 @@ use crate::timestamps::Timestamps;
 use crate::unit::serve_unit;
 use dxc_disk::Disk;
 use dxc_notes::Notes;
-use dxc_outside::{Gate, Got, Link};
+use dxc_outside::{Gate, Got, Link, MOST_READS, Stopped};
 use std::sync::Wait;
 
-const READS: u64 = 1 << 32;
-
-/// Answers the units that end in the first bytes of the piece, so many, and writes over a PID in them.
+/// Answers the units that end in the first bytes of the piece, so many, writes over a PID in them, and lets the next one go on who waits in the line
+/// of those who change something.
 fn serve_piece<K: Link, C: Timestamps, G: Gate, N: Notes, D: Disk + Drop, U: Disk + Drop, R: Wait>(
     desk: &mut Desk<D, U>,
     link: &mut K,
@@ -45,7 +41,7 @@ fn serve_piece<K: Link, C: Timestamps, G: Gate, N: Notes, D: Disk + Drop, U: Dis
     rt: &R,
     piece: &mut [u8],
     count: usize,
-) -> Progress
+) -> Result<Progress, Stopped>
     requires within { count ≤ length piece.old }
     ensures length { length piece.new ≡ length piece.old }
     ensures shelf { desk.new.shelf ≡ desk.old.shelf }
@@ -53,26 +49,25 @@ fn serve_piece<K: Link, C: Timestamps, G: Gate, N: Notes, D: Disk + Drop, U: Dis
     ensures users { IsSameUserSeat desk.old.users.seat desk.new.users.seat }
     ensures link { Writes K.told (K.state link.old) (K.state link.new) }
     ensures hung_up { K.hung_up link.new ≡ K.hung_up link.old }
-    ensures goes { GoesOver (arc_value desk.old.shelf) (telling K.told C.told C.stamped)
+    ensures goes { GoesOver (telling K.told C.told C.stamped)
         (desk_at (K.state link.old) (C.coming clock.old) desk.old)
         (desk_at (K.state link.new) (C.coming clock.new) desk.new)
-        (take count piece.old, result) }
-    ensures timely { IsTimelyFrom (arc_value desk.old.shelf) (telling K.told C.told C.stamped)
-        (stamp_at (C.coming clock.old) (K.state link.old) desk.old.seat desk.old.users.seat)
-        (in_hand desk.old.attending false More desk.old.reader (take count piece.old))
-        (reached (K.state link.new).written desk.new.seat.seen desk.new.users.seat.seen) }
-    ensures stopped { result ≡ Progress.Stopped → Rose (G.stops gate.old) (G.stops gate.new) }
-    ensures unstopped { result ≢ Progress.Stopped → G.stops gate.new ≡ G.stops gate.old }
-    ensures later { G.stops gate.old ≤ G.stops gate.new }
+        (take count piece.old) result }
+    ensures timely { TimelyOver (telling K.told C.told C.stamped)
+        (desk_at (K.state link.old) (C.coming clock.old) desk.old)
+        (desk_at (K.state link.new) (C.coming clock.new) desk.new)
+        (take count piece.old) }
+    ensures stopped { RoseOnlyFor (G.stops gate.old) (G.stops gate.new) (IsErr result) }
     ensures asked { AreEntered desk.old.seat desk.old.users.seat (G.asked gate.old gate.new)
         desk.new.seat.seen desk.new.users.seat.seen }
-    ensures noted { HasNoted (arc_value desk.old.shelf) (telling K.told C.told C.stamped)
-        (stood (K.state link.old) (C.coming clock.old) desk.old.seat desk.old.users.seat
-        desk.old.attending) (stood (K.state link.new) (C.coming clock.new) desk.new.seat
-        desk.new.users.seat desk.new.attending) (N.noted notes.old notes.new) }
+    ensures noted { NotedBetween (telling K.told C.told C.stamped)
+        (desk_at (K.state link.old) (C.coming clock.old) desk.old)
+        (desk_at (K.state link.new) (C.coming clock.new) desk.new)
+        (N.noted notes.old notes.new) }
 {
     let progress = serve_units(desk, link, clock, gate, notes, rt, &piece[..count]);
     desk.forget(piece);
+    desk.seat.call_next();
     progress
 }
 
@@ -85,42 +80,38 @@ fn serve_units<K: Link, C: Timestamps, G: Gate, N: Notes, D: Disk + Drop, U: Dis
     notes: &mut N,
     rt: &R,
     piece: &[u8],
-) -> Progress
+) -> Result<Progress, Stopped>
     ensures shelf { desk.new.shelf ≡ desk.old.shelf }
     ensures seat { IsSameSeat desk.old.seat desk.new.seat }
     ensures users { IsSameUserSeat desk.old.users.seat desk.new.users.seat }
     ensures link { Writes K.told (K.state link.old) (K.state link.new) }
     ensures hung_up { K.hung_up link.new ≡ K.hung_up link.old }
-    ensures goes { (first : AUser) → (k : LinkState) → (c : List Moment) → (b : Beginning)
-        → IsAt b desk.old.seat desk.old.users.seat
-        → Stands (language_for first (arc_value desk.old.shelf)) K.told C.told k (K.state link.old)
-        c (C.coming clock.old) b (now desk.old) false More desk.old.reader piece.now
-        → Goes (language_for first (arc_value desk.old.shelf)) K.told C.told k (K.state link.new) c
-        (C.coming clock.new) b (now desk.new) result false desk.new.reader [] }
-    ensures timely { IsTimelyFrom (arc_value desk.old.shelf) (telling K.told C.told C.stamped)
-        (stamp_at (C.coming clock.old) (K.state link.old) desk.old.seat desk.old.users.seat)
-        (in_hand desk.old.attending false More desk.old.reader piece.now)
-        (reached (K.state link.new).written desk.new.seat.seen desk.new.users.seat.seen) }
-    ensures stopped { result ≡ Progress.Stopped → Rose (G.stops gate.old) (G.stops gate.new) }
-    ensures unstopped { result ≢ Progress.Stopped → G.stops gate.new ≡ G.stops gate.old }
-    ensures later { G.stops gate.old ≤ G.stops gate.new }
+    ensures goes { GoesOver (telling K.told C.told C.stamped)
+        (desk_at (K.state link.old) (C.coming clock.old) desk.old)
+        (desk_at (K.state link.new) (C.coming clock.new) desk.new)
+        piece.now result }
+    ensures timely { TimelyOver (telling K.told C.told C.stamped)
+        (desk_at (K.state link.old) (C.coming clock.old) desk.old)
+        (desk_at (K.state link.new) (C.coming clock.new) desk.new)
+        piece.now }
+    ensures stopped { RoseOnlyFor (G.stops gate.old) (G.stops gate.new) (IsErr result) }
     ensures asked { AreEntered desk.old.seat desk.old.users.seat (G.asked gate.old gate.new)
         desk.new.seat.seen desk.new.users.seat.seen }
-    ensures noted { HasNoted (arc_value desk.old.shelf) (telling K.told C.told C.stamped)
-        (stood (K.state link.old) (C.coming clock.old) desk.old.seat desk.old.users.seat
-        desk.old.attending) (stood (K.state link.new) (C.coming clock.new) desk.new.seat
-        desk.new.users.seat desk.new.attending) (N.noted notes.old notes.new) }
+    ensures noted { NotedBetween (telling K.told C.told C.stamped)
+        (desk_at (K.state link.old) (C.coming clock.old) desk.old)
+        (desk_at (K.state link.new) (C.coming clock.new) desk.new)
+        (N.noted notes.old notes.new) }
 {
     let mut at = 0;
     while at < piece.len() {
         let fed = desk.reader.feed(&piece[at..]);
         at += fed.taken;
-        match serve_unit(desk, link, clock, gate, notes, rt, fed.unit) {
+        match serve_unit(desk, link, clock, gate, notes, rt, fed.unit)? {
             Progress::On => {}
-            end => return end,
+            Progress::Cut => return Ok(Progress::Cut),
         }
     }
-    Progress::On
+    Ok(Progress::On)
 }
 
 /// Serves the link from a desk that has read nothing yet.
@@ -149,13 +140,12 @@ pub(crate) fn serve<
     ensures shelf { desk.new.shelf ≡ desk.old.shelf }
     ensures seat { IsSameSeat desk.old.seat desk.new.seat }
     ensures users { IsSameUserSeat desk.old.users.seat desk.new.users.seat }
-    ensures session { IsServed (language_for desk.old.attending.user (arc_value desk.old.shelf))
-        K.told C.told (K.state link.old) (K.state link.new) (C.coming clock.old)
-        (C.coming clock.new) desk.old.seat desk.new.seat desk.old.users.seat desk.new.users.seat
-        result }
-    ensures prompt { IsPrompt (language_for desk.old.attending.user (arc_value desk.old.shelf))
-        K.begun K.told C.told (K.state link.old) (K.state link.new) (C.coming clock.old)
-        desk.old.seat desk.old.users.seat }
+    ensures session { ServedBetween (telling K.told C.told C.stamped)
+        (desk_at (K.state link.old) (C.coming clock.old) desk.old)
+        (desk_at (K.state link.new) (C.coming clock.new) desk.new) result }
+    ensures prompt { PromptBetween (telling K.told C.told C.stamped)
+        (desk_at (K.state link.old) (C.coming clock.old) desk.old)
+        (desk_at (K.state link.new) (C.coming clock.new) desk.new) K.begun }
     ensures timely { WasTimely (language_for desk.old.attending.user (arc_value desk.old.shelf))
         (telling K.told C.told C.stamped)
         (stamp_at (C.coming clock.old) (K.state link.old) desk.old.seat desk.old.users.seat)
@@ -174,10 +164,10 @@ pub(crate) fn serve<
     ensures later { G.stops gate.old ≤ G.stops gate.new }
     ensures asked { AreEntered desk.old.seat desk.old.users.seat (G.asked gate.old gate.new)
         desk.new.seat.seen desk.new.users.seat.seen }
-    ensures noted { HasNoted (arc_value desk.old.shelf) (telling K.told C.told C.stamped)
-        (stood (K.state link.old) (C.coming clock.old) desk.old.seat desk.old.users.seat
-        desk.old.attending) (stood (K.state link.new) (C.coming clock.new) desk.new.seat
-        desk.new.users.seat desk.new.attending) (N.noted notes.old notes.new) }
+    ensures noted { NotedBetween (telling K.told C.told C.stamped)
+        (desk_at (K.state link.old) (C.coming clock.old) desk.old)
+        (desk_at (K.state link.new) (C.coming clock.new) desk.new)
+        (N.noted notes.old notes.new) }
     ensures spent { result ≡ SessionEnd.Spent
         → Counted (K.state link.old).reads (K.state link.new).reads (2 ^ 32) }
     ensures few { (K.state link.new).reads ≤ (K.state link.old).reads + 2 ^ 32 }
@@ -206,7 +196,7 @@ pub(crate) fn serve<
     let limits = desk.shelf.idle();
     let mut waited = 0;
     let mut silent = 0;
-    for _ in 0..READS {
+    for _ in 0..MOST_READS {
         if patience.is_over(&desk.attending, waited) {
             return SessionEnd::Unattended;
         }
@@ -218,18 +208,16 @@ pub(crate) fn serve<
         }
         let user = desk.attending.user;
         let read = match link.read(piece) {
-            Got::Bytes(count) => {
-                let progress = serve_piece(desk, link, clock, gate, notes, rt, piece, count);
-                desk.seat.call_next();
-                match progress {
-                    Progress::On => BYTES,
-                    Progress::Cut => return SessionEnd::WriteFault,
-                    Progress::Stopped => return SessionEnd::Stopped,
-                }
-            }
+            Got::Bytes(count) => match serve_piece(
+                desk, link, clock, gate, notes, rt, piece, count,
+            ) {
+                Ok(Progress::On) => BYTES,
+                Ok(Progress::Cut) => return SessionEnd::WriteFault,
+                Err(Stopped) => return SessionEnd::Stopped,
+            },
             Got::Quiet => match report(desk, link, clock, rt) {
                 Progress::On => QUIET,
-                Progress::Cut | Progress::Stopped => return SessionEnd::WriteFault,
+                Progress::Cut => return SessionEnd::WriteFault,
             },
             Got::End => return SessionEnd::End,
             Got::Failed => return SessionEnd::ReadFault,

@@ -5,7 +5,7 @@ ghost use Rattle.dxc_model.specs.Equipment.{has_bit, modules_in};
 ghost use Rattle.tl1_answer.specs.Blocks.{IsUnended, IsBegun};
 ghost use Rattle.tl1_answer.specs.Texts.{middle_text as text_of_middle, module_text as text_of_module};
 ghost use Rattle.xc_core.specs.Turns.{IsInventoryOf, equipped_in};
-ghost use Rattle.craft_session.specs.Responses.{Adds, equipment_lines, shown_lines};
+ghost use Rattle.craft_session.specs.Responses.{Adds, addition, equipment_lines, shown_lines};
 
 use crate::program::add_program;
 use crate::say::add_line;
@@ -33,7 +33,7 @@ fn add_module<K: Link>(
     requires inside { IsModule shape number }
     requires few { number < 64 }
     ensures filled { Adds K.told (K.state link.old) (K.state link.new)
-        (record { sent = result; old = answer.old; new = answer.new })
+        (addition result answer.old answer.new)
         (map text_of_module (filter (has_bit equipped) (number ∷ []))) }
     ensures hung_up { K.hung_up link.new ≡ K.hung_up link.old }
 {
@@ -56,8 +56,7 @@ fn add_modules<K: Link>(
     requires begun { IsBegun answer.old }
     requires short { length answer.old.head ≤ 64 }
     ensures filled { Adds K.told (K.state link.old) (K.state link.new)
-        (record { sent = result; old = answer.old; new = answer.new })
-        (map text_of_module (modules_in shape equipped)) }
+        (addition result answer.old answer.new) (map text_of_module (modules_in shape equipped)) }
     ensures hung_up { K.hung_up link.new ≡ K.hung_up link.old }
 {
     for number in 0..shape.modules() {
@@ -82,8 +81,7 @@ fn add_middle<K: Link>(
     requires short { length answer.old.head ≤ 64 }
     requires working { IfSome out (λ m. IsWorking shape m.0) }
     ensures filled { Adds K.told (K.state link.old) (K.state link.new)
-        (record { sent = result; old = answer.old; new = answer.new })
-        (map text_of_middle (option_to_list out)) }
+        (addition result answer.old answer.new) (map text_of_middle (option_to_list out)) }
     ensures hung_up { K.hung_up link.new ≡ K.hung_up link.old }
 {
     match out {
@@ -108,7 +106,7 @@ fn add_equipment<K: Link>(
     requires short { length answer.old.head ≤ 64 }
     requires of_shape { IsInventoryOf shape inventory }
     ensures filled { Adds K.told (K.state link.old) (K.state link.new)
-        (record { sent = result; old = answer.old; new = answer.new })
+        (addition result answer.old answer.new)
         (equipment_lines (equipped_in inventory) inventory.out) }
     ensures hung_up { K.hung_up link.new ≡ K.hung_up link.old }
 {
@@ -133,7 +131,7 @@ pub fn add_inventory<K: Link>(
     requires short { length answer.old.head ≤ 64 }
     requires of_shape { IsInventoryOf shape inventory }
     ensures filled { Adds K.told (K.state link.old) (K.state link.new)
-        (record { sent = result; old = answer.old; new = answer.new })
+        (addition result answer.old answer.new)
         (shown_lines subject (equipped_in inventory) inventory.out (Some standing.now)) }
     ensures hung_up { K.hung_up link.new ≡ K.hung_up link.old }
 {

@@ -1,34 +1,33 @@
 //! One unit that ended: read as a command, done, answered and noted.
-ghost use Rattle.std.specs.Prelude.{◌≡◌, ◌≢◌, ◌≤◌, ◌<◌, ◌+◌, false, ℕ, List, length};
-ghost use Rattle.dxc_causes.specs.Causes.{Rose};
-ghost use Rattle.dxc_outside.specs.declared.clock.Moment.{Moment};
-ghost use Rattle.dxc_model.specs.declared.user.SessionUser.{SessionUser as AUser};
-ghost use Rattle.dxc_outside.specs.Links.{LinkState};
-ghost use Rattle.tl1_text.specs.declared.reader.UnitKind.TheVariants.{More};
+ghost use Rattle.std.specs.Prelude.{◌≡◌, ◌≢◌, ◌≤◌, ◌<◌, ◌+◌, false, ℕ, List, length, IfOk, IsErr, IsOk};
+ghost use Rattle.dxc_causes.specs.Stops.{RoseOnlyFor};
 ghost use Rattle.std.specs.Arc.{arc_value};
 ghost use Rattle.craft_session.specs.Asks.{IsAptAsk};
 ghost use Rattle.craft_session.specs.Gated.{AreEntered};
-ghost use Rattle.craft_session.specs.Meanings.{language_for, wants};
-ghost use Rattle.craft_session.specs.Desks.{now, input_of, put_down, ConsultedIs, IsAnswered};
-ghost use Rattle.craft_session.specs.Noted.{HasNoted, UsersNoted, stood};
+ghost use Rattle.craft_session.specs.Gathered.{AnsweredBetween, GoesBetween, NotedBetween, TimelyBetween, desk_at};
+ghost use Rattle.craft_session.specs.Hearing.{left};
+ghost use Rattle.craft_session.specs.Meanings.{wants};
+ghost use Rattle.craft_session.specs.Desks.{asker, input_of, put_down, ConsultedBy};
+ghost use Rattle.craft_session.specs.Noted.{UsersNoted};
 ghost use Rattle.craft_session.specs.Seats.{IsSameSeat, IsSameUserSeat};
-ghost use Rattle.craft_session.specs.Sessions.{Beginning, IsAt, Writes, Stands, Goes};
+ghost use Rattle.craft_session.specs.Sessions.{Writes};
 ghost use Rattle.craft_session.specs.Stamps.{stamp_at};
-ghost use Rattle.craft_session.specs.Timely.{IsTimelyFrom, in_hand, reached, telling};
+ghost use Rattle.craft_session.specs.Timely.{in_hand, telling};
 
 use crate::act::act;
 use crate::ask::Ask;
 use crate::desk::Desk;
 use crate::end::Progress;
-use crate::meaning::consult;
+use crate::meaning::read;
 use crate::noting::note_unit;
 use crate::reports::report;
 use crate::say::say;
 use crate::timestamps::Timestamps;
+use crate::user_commands::consult;
 use dxc_disk::Disk;
 use dxc_model::Cause;
 use dxc_notes::Notes;
-use dxc_outside::{Gate, Link, Pass1};
+use dxc_outside::{Gate, Link, Stopped};
 use std::sync::Wait;
 use tl1_text::{Ctag, UnitKind};
 
@@ -49,7 +48,7 @@ pub(crate) fn serve_unit<
     notes: &mut N,
     rt: &R,
     kind: UnitKind,
-) -> Progress
+) -> Result<Progress, Stopped>
     requires short { kind ≡ UnitKind.Whole → length desk.old.reader.kept ≤ 2047 }
     ensures shelf { desk.new.shelf ≡ desk.old.shelf }
     ensures seat { IsSameSeat desk.old.seat desk.new.seat }
@@ -57,29 +56,24 @@ pub(crate) fn serve_unit<
     ensures reader { desk.new.reader ≡ desk.old.reader }
     ensures link { Writes K.told (K.state link.old) (K.state link.new) }
     ensures hung_up { K.hung_up link.new ≡ K.hung_up link.old }
-    ensures goes { (first : AUser) → (k : LinkState) → (c : List Moment) → (b : Beginning)
-        → (ahead : List ℕ) → IsAt b desk.old.seat desk.old.users.seat
-        → Stands (language_for first (arc_value desk.old.shelf)) K.told C.told k (K.state link.old)
-        c (C.coming clock.old) b (now desk.old) false kind desk.old.reader ahead
-        → Goes (language_for first (arc_value desk.old.shelf)) K.told C.told k (K.state link.new) c
-        (C.coming clock.new) b (now desk.new) result false desk.old.reader ahead }
-    ensures timely { (ahead : List ℕ)
-        → IsTimelyFrom (arc_value desk.old.shelf) (telling K.told C.told C.stamped)
-        (stamp_at (C.coming clock.old) (K.state link.old) desk.old.seat desk.old.users.seat)
-        (in_hand desk.old.attending false kind desk.old.reader ahead)
-        (reached (K.state link.new).written desk.new.seat.seen desk.new.users.seat.seen) }
-    ensures stopped { result ≡ Progress.Stopped → Rose (G.stops gate.old) (G.stops gate.new) }
-    ensures unstopped { result ≢ Progress.Stopped → G.stops gate.new ≡ G.stops gate.old }
-    ensures later { G.stops gate.old ≤ G.stops gate.new }
+    ensures goes { (ahead : List ℕ) → GoesBetween (telling K.told C.told C.stamped)
+        (desk_at (K.state link.old) (C.coming clock.old) desk.old)
+        (desk_at (K.state link.new) (C.coming clock.new) desk.new)
+        (in_hand desk.old.attending false kind desk.old.reader ahead) result }
+    ensures timely { (ahead : List ℕ) → TimelyBetween (telling K.told C.told C.stamped)
+        (desk_at (K.state link.old) (C.coming clock.old) desk.old)
+        (desk_at (K.state link.new) (C.coming clock.new) desk.new)
+        (in_hand desk.old.attending false kind desk.old.reader ahead) }
+    ensures stopped { RoseOnlyFor (G.stops gate.old) (G.stops gate.new) (IsErr result) }
     ensures asked { AreEntered desk.old.seat desk.old.users.seat (G.asked gate.old gate.new)
         desk.new.seat.seen desk.new.users.seat.seen }
-    ensures noted { HasNoted (arc_value desk.old.shelf) (telling K.told C.told C.stamped)
-        (stood (K.state link.old) (C.coming clock.old) desk.old.seat desk.old.users.seat
-        desk.old.attending) (stood (K.state link.new) (C.coming clock.new) desk.new.seat
-        desk.new.users.seat desk.new.attending) (N.noted notes.old notes.new) }
+    ensures noted { NotedBetween (telling K.told C.told C.stamped)
+        (desk_at (K.state link.old) (C.coming clock.old) desk.old)
+        (desk_at (K.state link.new) (C.coming clock.new) desk.new)
+        (N.noted notes.old notes.new) }
 {
     match kind {
-        UnitKind::More => Progress::On,
+        UnitKind::More => Ok(Progress::On),
         UnitKind::Whole | UnitKind::TooLong => attend(desk, link, clock, gate, notes, rt, kind),
     }
 }
@@ -93,7 +87,7 @@ fn attend<K: Link, C: Timestamps, G: Gate, N: Notes, D: Disk + Drop, U: Disk + D
     notes: &mut N,
     rt: &R,
     kind: UnitKind,
-) -> Progress
+) -> Result<Progress, Stopped>
     requires ended { kind ≢ UnitKind.More }
     requires short { kind ≡ UnitKind.Whole → length desk.old.reader.kept ≤ 2047 }
     ensures shelf { desk.new.shelf ≡ desk.old.shelf }
@@ -102,30 +96,25 @@ fn attend<K: Link, C: Timestamps, G: Gate, N: Notes, D: Disk + Drop, U: Disk + D
     ensures reader { desk.new.reader ≡ desk.old.reader }
     ensures link { Writes K.told (K.state link.old) (K.state link.new) }
     ensures hung_up { K.hung_up link.new ≡ K.hung_up link.old }
-    ensures goes { (first : AUser) → (k : LinkState) → (c : List Moment) → (b : Beginning)
-        → (ahead : List ℕ) → IsAt b desk.old.seat desk.old.users.seat
-        → Stands (language_for first (arc_value desk.old.shelf)) K.told C.told k (K.state link.old)
-        c (C.coming clock.old) b (now desk.old) false kind desk.old.reader ahead
-        → Goes (language_for first (arc_value desk.old.shelf)) K.told C.told k (K.state link.new) c
-        (C.coming clock.new) b (now desk.new) result false desk.old.reader ahead }
-    ensures timely { (ahead : List ℕ)
-        → IsTimelyFrom (arc_value desk.old.shelf) (telling K.told C.told C.stamped)
-        (stamp_at (C.coming clock.old) (K.state link.old) desk.old.seat desk.old.users.seat)
-        (in_hand desk.old.attending false kind desk.old.reader ahead)
-        (reached (K.state link.new).written desk.new.seat.seen desk.new.users.seat.seen) }
-    ensures stopped { result ≡ Progress.Stopped → Rose (G.stops gate.old) (G.stops gate.new) }
-    ensures unstopped { result ≢ Progress.Stopped → G.stops gate.new ≡ G.stops gate.old }
-    ensures later { G.stops gate.old ≤ G.stops gate.new }
+    ensures goes { (ahead : List ℕ) → GoesBetween (telling K.told C.told C.stamped)
+        (desk_at (K.state link.old) (C.coming clock.old) desk.old)
+        (desk_at (K.state link.new) (C.coming clock.new) desk.new)
+        (in_hand desk.old.attending false kind desk.old.reader ahead) result }
+    ensures timely { (ahead : List ℕ) → TimelyBetween (telling K.told C.told C.stamped)
+        (desk_at (K.state link.old) (C.coming clock.old) desk.old)
+        (desk_at (K.state link.new) (C.coming clock.new) desk.new)
+        (in_hand desk.old.attending false kind desk.old.reader ahead) }
+    ensures stopped { RoseOnlyFor (G.stops gate.old) (G.stops gate.new) (IsErr result) }
     ensures asked { AreEntered desk.old.seat desk.old.users.seat (G.asked gate.old gate.new)
         desk.new.seat.seen desk.new.users.seat.seen }
-    ensures noted { HasNoted (arc_value desk.old.shelf) (telling K.told C.told C.stamped)
-        (stood (K.state link.old) (C.coming clock.old) desk.old.seat desk.old.users.seat
-        desk.old.attending) (stood (K.state link.new) (C.coming clock.new) desk.new.seat
-        desk.new.users.seat desk.new.attending) (N.noted notes.old notes.new) }
+    ensures noted { NotedBetween (telling K.told C.told C.stamped)
+        (desk_at (K.state link.old) (C.coming clock.old) desk.old)
+        (desk_at (K.state link.new) (C.coming clock.new) desk.new)
+        (N.noted notes.old notes.new) }
 {
-    match answer(desk, link, clock, gate, notes, rt, kind) {
-        Progress::On => report(desk, link, clock, rt),
-        end => end,
+    match answer(desk, link, clock, gate, notes, rt, kind)? {
+        Progress::On => Ok(report(desk, link, clock, rt)),
+        Progress::Cut => Ok(Progress::Cut),
     }
 }
 
@@ -138,7 +127,7 @@ fn answer<K: Link, C: Timestamps, G: Gate, N: Notes, D: Disk + Drop, U: Disk + D
     notes: &mut N,
     rt: &R,
     kind: UnitKind,
-) -> Progress
+) -> Result<Progress, Stopped>
     requires short { kind ≡ UnitKind.Whole → length desk.old.reader.kept ≤ 2047 }
     ensures shelf { desk.new.shelf ≡ desk.old.shelf }
     ensures seat { IsSameSeat desk.old.seat desk.new.seat }
@@ -146,27 +135,23 @@ fn answer<K: Link, C: Timestamps, G: Gate, N: Notes, D: Disk + Drop, U: Disk + D
     ensures reader { desk.new.reader ≡ desk.old.reader }
     ensures link { Writes K.told (K.state link.old) (K.state link.new) }
     ensures hung_up { K.hung_up link.new ≡ K.hung_up link.old }
-    ensures answered { IsAnswered (arc_value desk.old.shelf) K.told C.told (K.state link.old)
-        (K.state link.new) (C.coming clock.old) (C.coming clock.new) (input_of kind desk.old.reader)
-        desk.old.seat desk.old.users.seat (now desk.old) (now desk.new) result }
-    ensures stamped { result ≢ Progress.Stopped → C.stamped (stamp_at (C.coming clock.old)
+    ensures answered { AnsweredBetween (telling K.told C.told C.stamped)
+        (desk_at (K.state link.old) (C.coming clock.old) desk.old)
+        (desk_at (K.state link.new) (C.coming clock.new) desk.new)
+        (input_of kind desk.old.reader) result }
+    ensures stamped { IsOk result → C.stamped (stamp_at (C.coming clock.old)
         (K.state link.old) desk.new.seat desk.new.users.seat) }
-    ensures stopped { result ≡ Progress.Stopped → Rose (G.stops gate.old) (G.stops gate.new) }
-    ensures unstopped { result ≢ Progress.Stopped → G.stops gate.new ≡ G.stops gate.old }
-    ensures later { G.stops gate.old ≤ G.stops gate.new }
+    ensures stopped { RoseOnlyFor (G.stops gate.old) (G.stops gate.new) (IsErr result) }
     ensures asked { AreEntered desk.old.seat desk.old.users.seat (G.asked gate.old gate.new)
         desk.new.seat.seen desk.new.users.seat.seen }
-    ensures noted { HasNoted (arc_value desk.old.shelf) (telling K.told C.told C.stamped)
-        (stood (K.state link.old) (C.coming clock.old) desk.old.seat desk.old.users.seat
-        desk.old.attending) (stood (K.state link.new) (C.coming clock.new) desk.new.seat
-        desk.new.users.seat desk.new.attending) (N.noted notes.old notes.new) }
+    ensures noted { NotedBetween (telling K.told C.told C.stamped)
+        (desk_at (K.state link.old) (C.coming clock.old) desk.old)
+        (desk_at (K.state link.new) (C.coming clock.new) desk.new)
+        (N.noted notes.old notes.new) }
 {
     let mut tag = None;
     let mut ask = Ask::Completes;
-    match ask_of(desk, &mut tag, &mut ask, gate, notes, rt, kind) {
-        Pass1::Go => {}
-        Pass1::Stop => return Progress::Stopped,
-    }
+    ask_of(desk, &mut tag, &mut ask, gate, notes, rt, kind)?;
     let acted = act(
         &mut desk.seat,
         &mut desk.attending,
@@ -174,25 +159,20 @@ fn answer<K: Link, C: Timestamps, G: Gate, N: Notes, D: Disk + Drop, U: Disk + D
         &ask,
         gate,
         rt,
+    )?;
+    note_unit(
+        notes,
+        desk.shelf.shape(),
+        &desk.attending.user,
+        &tag,
+        &ask,
+        &acted,
+        &mut desk.standing,
     );
-    match acted {
-        Some(acted) => {
-            note_unit(
-                notes,
-                desk.shelf.shape(),
-                &desk.attending.user,
-                &tag,
-                &ask,
-                &acted,
-                &mut desk.standing,
-            );
-            Progress::of(say(desk, link, clock, &tag, acted))
-        }
-        None => Progress::Stopped,
-    }
+    Ok(Progress::of(say(desk, link, clock, &tag, acted)))
 }
 
-/// Puts down the tag of the unit that ended, and what it asks behind what the users answer to it. Stop: the gate stopped before they were changed.
+/// Puts down the tag of the unit that ended, and what it asks after what the users answer to it. Err: the gate stopped before they were changed.
 fn ask_of<G: Gate, N: Notes, D: Disk + Drop, U: Disk + Drop, R: Wait>(
     desk: &mut Desk<D, U>,
     tag: &mut Option<Ctag>,
@@ -201,41 +181,45 @@ fn ask_of<G: Gate, N: Notes, D: Disk + Drop, U: Disk + Drop, R: Wait>(
     notes: &mut N,
     rt: &R,
     kind: UnitKind,
-) -> Pass1
+) -> Result<(), Stopped>
     requires short { kind ≡ UnitKind.Whole → length desk.old.reader.kept ≤ 2047 }
     ensures shelf { desk.new.shelf ≡ desk.old.shelf }
     ensures seat { desk.new.seat ≡ desk.old.seat }
     ensures users { IsSameUserSeat desk.old.users.seat desk.new.users.seat }
     ensures attending { desk.new.attending ≡ desk.old.attending }
     ensures reader { desk.new.reader ≡ desk.old.reader }
-    ensures consulted { ConsultedIs (arc_value desk.old.shelf) desk.old.attending.user
-        (input_of kind desk.old.reader) desk.old.users.seat desk.new.users.rows.items
-        desk.new.users.seat.seen (G.asked gate.old gate.new) tag.new ask.new result }
+    ensures consulted { ConsultedBy
+        (asker (arc_value desk.old.shelf) desk.old.attending.user (input_of kind desk.old.reader))
+        desk.old.users.seat (tag.new, ask.new) (left desk.new.users.rows.items
+        desk.new.users.seat.seen (G.asked gate.old gate.new)) result }
     ensures noted { UsersNoted (N.noted notes.old notes.new) desk.old.attending.user tag.new
         (wants (arc_value desk.old.shelf) desk.old.attending.user (input_of kind desk.old.reader))
         (put_down result ask.new) }
-    ensures apt { result ≡ Pass1.Go → IsAptAsk (arc_value desk.old.shelf).shape ask.new }
-    ensures unstopped { result ≡ Pass1.Go → G.stops gate.new ≡ G.stops gate.old }
-    ensures stopped { result ≡ Pass1.Stop → Rose (G.stops gate.old) (G.stops gate.new) }
-    ensures later { G.stops gate.old ≤ G.stops gate.new }
+    ensures apt { IfOk (put_down result ask.new) (IsAptAsk (arc_value desk.old.shelf).shape) }
+    ensures stopped { RoseOnlyFor (G.stops gate.old) (G.stops gate.new) (IsErr result) }
 {
     desk.users.rows.clear();
     match kind {
-        UnitKind::Whole => consult(
-            &desk.shelf,
-            &mut desk.users,
-            &desk.attending.user,
-            desk.reader.unit(),
-            tag,
-            ask,
-            gate,
-            notes,
-            rt,
-        ),
+        UnitKind::Whole => {
+            let user = &desk.attending.user;
+            let unit = desk.reader.unit();
+            let meaning = read(&desk.shelf, user, unit, tag, ask, &mut desk.users.asked);
+            consult(
+                &mut desk.users,
+                user,
+                unit,
+                meaning,
+                tag,
+                ask,
+                gate,
+                notes,
+                rt,
+            )
+        }
         UnitKind::TooLong | UnitKind::More => {
             *tag = None;
             *ask = Ask::Refused(Cause::TooLong);
-            Pass1::Go
+            Ok(())
         }
     }
 }

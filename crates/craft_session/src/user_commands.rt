@@ -1,113 +1,165 @@
-//! The commands of users: what is asked of them, and what comes of it.
-ghost use Rattle.std.specs.Prelude.{◌≡◌, ◌≢◌, ◌≤◌, [], IfSome, None, length, map};
-ghost use Rattle.dxc_causes.specs.Causes.{Rose};
+//! What a unit means by the users is done: a log-in is looked up, and an operation on them made and noted.
+ghost use Rattle.std.specs.Prelude.{◌≡◌, [], IfOk, IsErr, Ok};
+ghost use Rattle.dxc_causes.specs.Stops.{RoseOnlyFor};
 ghost use Rattle.dxc_num.specs.Dimensions.{Dimensions};
-ghost use Rattle.tl1_text.specs.Spans.{AreBlocksOf, block_at};
-ghost use Rattle.user_admin.specs.Spellable.{NamesUid};
+ghost use Rattle.tl1_users.specs.Commands.{NamesUid, is_not_logged_in};
 ghost use Rattle.user_admin.specs.Verdicts.{IsChanging};
 ghost use Rattle.craft_session.specs.Asks.{IsAptAsk};
 ghost use Rattle.craft_session.specs.Desks.{put_down};
 ghost use Rattle.craft_session.specs.Gated.{NothingAsked};
-ghost use Rattle.craft_session.specs.Hearing.{AskedIs, IsAsked, to_do};
-ghost use Rattle.user_admin.specs.Commands.{user_meaning};
+ghost use Rattle.craft_session.specs.Hearing.{AskedAt, left, to_do};
 ghost use Rattle.craft_session.specs.Noted.{UsersNoted};
-ghost use Rattle.craft_session.specs.Meanings.{heard_ask, op_wants, users_ask, users_want};
+ghost use Rattle.craft_session.specs.Meanings.{heard_ask, log_in as logged_in, login_wants, named_by, op_wants, users_ask, users_want};
+ghost use Rattle.craft_session.specs.Readings.{IsAptRead, IsCommand, asked_after, read_as, wanted_by};
 ghost use Rattle.craft_session.specs.Seats.{IsSameUserSeat};
 
-use crate::ask::Ask;
+use crate::ask::{Ask, Meaning};
 use crate::noting::{note_user_command, user_change_of};
 use crate::users::UserDesk;
 use dxc_disk::Disk;
-use dxc_model::{Cause, SessionUser, Uid};
+use dxc_model::{Cause, Class, SessionUser, Uid};
 use dxc_notes::{Notes, Outcome, UserChange, Word};
-use dxc_outside::{Gate, Pass1};
-use shelf_file::Shelf;
+use dxc_outside::{Gate, Stopped};
 use std::sync::Wait;
-use tl1_text::{Blocks, Ctag};
+use tl1_text::Ctag;
+use tl1_users::UserOp;
 use user_admin::turns::UserTook;
-use user_admin::{UserOp, is_of_users, user_command_of};
+use user_admin::upper;
 
-/// Puts down what a unit asks that may be a command of the users. The blocks are the unit's.
-pub(crate) fn hear_users<U: Disk + Drop, G: Gate, N: Notes, R: Wait>(
-    shelf: &Shelf,
+/// Asks the users what a unit of this text means by them, if it does, and puts down what it asks of the session then; the rows of users that it
+/// reads stand in `users`. Err: the gate stopped before the users were changed.
+#[inline(always)]
+pub(crate) fn consult<U: Disk + Drop, G: Gate, N: Notes, R: Wait>(
     users: &mut UserDesk<U>,
     user: &SessionUser,
     unit: &[u8],
-    found: &Blocks,
+    meaning: Meaning,
     tag: &Option<Ctag>,
     ask: &mut Ask,
     gate: &mut G,
     notes: &mut N,
     rt: &R,
-) -> Pass1
-    requires short { length unit.now ≤ 2047 }
-    requires blocks { AreBlocksOf unit.now found.now.block.items }
+) -> Result<(), Stopped>
     requires no_rows { users.old.rows.items ≡ [] }
+    requires apt { (d : Dimensions) × IsAptRead d
+        (read_as unit.now meaning ask.old users.old.asked.op) }
     ensures same { IsSameUserSeat users.old.seat users.new.seat }
-    ensures asked { AskedIs users.old.seat (users_want (user_meaning shelf.now.sid user.now
-        (map (block_at unit.now) found.now.block.items))) (λ x. users_ask x
-        (user_meaning shelf.now.sid user.now (map (block_at unit.now) found.now.block.items)))
-        users.new.rows.items users.new.seat.seen (G.asked gate.old gate.new)
+    ensures asked { AskedAt users.old.seat
+        (wanted_by user.now (read_as unit.now meaning ask.old users.old.asked.op))
+        (asked_after user.now (read_as unit.now meaning ask.old users.old.asked.op))
+        (left users.new.rows.items users.new.seat.seen (G.asked gate.old gate.new))
         (put_down result ask.new) }
     ensures noted { UsersNoted (N.noted notes.old notes.new) user.now tag.now
-        (users_want (user_meaning shelf.now.sid user.now
-        (map (block_at unit.now) found.now.block.items))) (put_down result ask.new) }
-    ensures apt { (d : Dimensions) → result ≡ Pass1.Go → IsAptAsk d ask.new }
-    ensures unstopped { result ≡ Pass1.Go → G.stops gate.new ≡ G.stops gate.old }
-    ensures stopped { result ≡ Pass1.Stop → Rose (G.stops gate.old) (G.stops gate.new) }
-    ensures later { G.stops gate.old ≤ G.stops gate.new }
+        (wanted_by user.now (read_as unit.now meaning ask.old users.old.asked.op))
+        (put_down result ask.new) }
+    ensures apt { (d : Dimensions)
+        → IsAptRead d (read_as unit.now meaning ask.old users.old.asked.op)
+        → IfOk (put_down result ask.new) (IsAptAsk d) }
+    ensures stopped { RoseOnlyFor (G.stops gate.old) (G.stops gate.new) (IsErr result) }
 {
-    if !is_of_users(unit, found) {
-        *ask = Ask::Refused(Cause::UnknownCommand);
-        return Pass1::Go;
-    }
-    match ask_users(shelf, users, user, unit, found, tag, gate, notes, rt) {
-        Some(heard) => {
-            *ask = heard;
-            Pass1::Go
+    match meaning {
+        Meaning::Session => Ok(()),
+        Meaning::LogIn { uid, pid } => {
+            log_in(users, user, uid.text(unit), pid.text(unit), ask, rt);
+            Ok(())
         }
-        None => Pass1::Stop,
+        Meaning::Users => ask_users(users, user, tag, ask, gate, notes, rt),
     }
 }
 
-/// What a unit asks that may be a command of the users. The blocks are the unit's.
+/// Looks whom name and PID log in. A name that is too long for a user's is nobody's.
+// Apart, since the users' entries are large, and a unit that has none pays for no room of theirs.
+#[inline(never)]
+fn log_in<U: Disk + Drop, R: Wait>(
+    users: &mut UserDesk<U>,
+    user: &SessionUser,
+    uid: &[u8],
+    pid: &[u8],
+    ask: &mut Ask,
+    rt: &R,
+)
+    requires no_rows { users.old.rows.items ≡ [] }
+    ensures same { IsSameUserSeat users.old.seat users.new.seat }
+    ensures asked { AskedAt users.old.seat (login_wants user.now uid.now pid.now)
+        (λ x. logged_in user.now (named_by uid.now x))
+        (left users.new.rows.items users.new.seat.seen NothingAsked) (Ok ask.new) }
+    ensures apt { (d : Dimensions) → IsAptAsk d ask.new }
+{
+    users.secrets.hear_log_in();
+    let Some(uid) = Uid::of(uid) else {
+        *ask = Ask::Refused(Cause::BadIdentity);
+        return;
+    };
+    users.guesses.rest(rt);
+    match users.seat.login(is_vacant(user), uid, pid, rt) {
+        Some(class) => {
+            users.guesses.right();
+            *ask = log_in_as(user, upper(uid), class);
+        }
+        None => {
+            users.guesses.wrong();
+            *ask = Ask::Refused(Cause::BadIdentity);
+        }
+    }
+}
+
+/// Nobody is logged in.
+fn is_vacant(user: &SessionUser) -> bool
+    ensures { result ≡ is_not_logged_in user.now }
+{
+    matches!(user, SessionUser::Nobody)
+}
+
+/// Where nobody is logged in, the user logs in.
+fn log_in_as(user: &SessionUser, uid: Uid, class: Class) -> Ask
+    ensures ask { result ≡ logged_in user.now (SessionUser.User uid class) }
+    ensures apt { (d : Dimensions) → IsAptAsk d result }
+{
+    match user {
+        SessionUser::Nobody => Ask::LogsIn(SessionUser::User { uid, class }),
+        SessionUser::User { .. } => Ask::Refused(Cause::AlreadyLoggedIn),
+    }
+}
+
+/// Asks of the users what was put down for them, and puts down what that asks of the session.
 // Apart, since an operation on them holds a PID, and a unit that asks for none clears no room of it.
 #[inline(never)]
 fn ask_users<U: Disk + Drop, G: Gate, N: Notes, R: Wait>(
-    shelf: &Shelf,
     users: &mut UserDesk<U>,
     user: &SessionUser,
-    unit: &[u8],
-    found: &Blocks,
     tag: &Option<Ctag>,
+    ask: &mut Ask,
     gate: &mut G,
     notes: &mut N,
     rt: &R,
-) -> Option<Ask>
-    requires short { length unit.now ≤ 2047 }
-    requires blocks { AreBlocksOf unit.now found.now.block.items }
+) -> Result<(), Stopped>
+    requires named { IfOk users.old.asked.op NamesUid }
+    requires command { IfOk users.old.asked.op IsCommand }
     requires no_rows { users.old.rows.items ≡ [] }
     ensures same { IsSameUserSeat users.old.seat users.new.seat }
-    ensures asked { AskedIs users.old.seat (users_want (user_meaning shelf.now.sid user.now
-        (map (block_at unit.now) found.now.block.items))) (λ x. users_ask x
-        (user_meaning shelf.now.sid user.now (map (block_at unit.now) found.now.block.items)))
-        users.new.rows.items users.new.seat.seen (G.asked gate.old gate.new) result }
+    ensures asked { AskedAt users.old.seat (users_want users.old.asked.op)
+        (λ x. users_ask x users.old.asked.op)
+        (left users.new.rows.items users.new.seat.seen (G.asked gate.old gate.new))
+        (put_down result ask.new) }
     ensures noted { UsersNoted (N.noted notes.old notes.new) user.now tag.now
-        (users_want (user_meaning shelf.now.sid user.now
-        (map (block_at unit.now) found.now.block.items))) result }
-    ensures apt { (d : Dimensions) → IfSome result (IsAptAsk d) }
-    ensures unstopped { result ≢ None → G.stops gate.new ≡ G.stops gate.old }
-    ensures stopped { result ≡ None → Rose (G.stops gate.old) (G.stops gate.new) }
-    ensures later { G.stops gate.old ≤ G.stops gate.new }
+        (users_want users.old.asked.op) (put_down result ask.new) }
+    ensures apt { (d : Dimensions) → IfOk (put_down result ask.new) (IsAptAsk d) }
+    ensures stopped { RoseOnlyFor (G.stops gate.old) (G.stops gate.new) (IsErr result) }
 {
     users.secrets.hear_command();
-    match user_command_of(shelf.sid(), *user, unit, found) {
-        Ok(op) => on_users(users, user, tag, op, gate, notes, rt),
-        Err(cause) => Some(Ask::Refused(cause)),
+    match users.asked.take() {
+        Ok(op) => {
+            *ask = on_users(users, user, tag, op, gate, notes, rt)?;
+            Ok(())
+        }
+        Err(cause) => {
+            *ask = Ask::Refused(cause);
+            Ok(())
+        }
     }
 }
 
-/// Does an operation on the users; one that ends sessions ends this one too where it is that user's. A command never asks for a look or a log-in.
+/// Does an operation on the users; one that ends sessions ends this one too where it is that user's.
 fn on_users<U: Disk + Drop, G: Gate, N: Notes, R: Wait>(
     users: &mut UserDesk<U>,
     user: &SessionUser,
@@ -116,28 +168,27 @@ fn on_users<U: Disk + Drop, G: Gate, N: Notes, R: Wait>(
     gate: &mut G,
     notes: &mut N,
     rt: &R,
-) -> Option<Ask>
+) -> Result<Ask, Stopped>
     requires named { NamesUid op }
+    requires command { IsCommand op }
     requires no_rows { users.old.rows.items ≡ [] }
     ensures same { IsSameUserSeat users.old.seat users.new.seat }
-    ensures asked { AskedIs users.old.seat (op_wants op) heard_ask users.new.rows.items
-        users.new.seat.seen (G.asked gate.old gate.new) result }
+    ensures asked { AskedAt users.old.seat (op_wants op) heard_ask
+        (left users.new.rows.items users.new.seat.seen (G.asked gate.old gate.new)) result }
     ensures noted { UsersNoted (N.noted notes.old notes.new) user.now tag.now (op_wants op)
         result }
-    ensures apt { (d : Dimensions) → IfSome result (IsAptAsk d) }
-    ensures unstopped { result ≢ None → G.stops gate.new ≡ G.stops gate.old }
-    ensures stopped { result ≡ None → Rose (G.stops gate.old) (G.stops gate.new) }
-    ensures later { G.stops gate.old ≤ G.stops gate.new }
+    ensures apt { (d : Dimensions) → IfOk result (IsAptAsk d) }
+    ensures stopped { RoseOnlyFor (G.stops gate.old) (G.stops gate.new) (IsErr result) }
 {
     match op {
-        UserOp::Rows(which) => Some(list_users(users, which, rt)),
+        UserOp::Rows(which) => Ok(list_users(users, which, rt)),
         UserOp::Cancel(uid) => {
             users.seat.cancel(uid, rt);
             let change = Some((UserChange::Cancel, Word::of(uid.bytes())));
             note_user_command(notes, user, tag, change, Outcome::Done);
-            Some(Ask::Completes)
+            Ok(Ask::Completes)
         }
-        UserOp::Look(_) | UserOp::LogIn(_) => Some(Ask::Refused(Cause::UnknownCommand)),
+        UserOp::Look(_) | UserOp::LogIn(_) => unreachable!(),
         op => change_users(users, user, tag, op, gate, notes, rt),
     }
 }
@@ -146,8 +197,8 @@ fn on_users<U: Disk + Drop, G: Gate, N: Notes, R: Wait>(
 fn list_users<U: Disk + Drop, R: Wait>(users: &mut UserDesk<U>, which: Option<Uid>, rt: &R) -> Ask
     requires no_rows { users.old.rows.items ≡ [] }
     ensures same { IsSameUserSeat users.old.seat users.new.seat }
-    ensures asked { IsAsked users.old.seat (to_do (UserOp.Rows which)) heard_ask result
-        users.new.rows.items users.new.seat.seen NothingAsked }
+    ensures asked { AskedAt users.old.seat (to_do (UserOp.Rows which)) heard_ask
+        (left users.new.rows.items users.new.seat.seen NothingAsked) (Ok result) }
     ensures apt { (d : Dimensions) → IsAptAsk d result }
 {
     match users.seat.rows(which, rt) {
@@ -168,29 +219,26 @@ fn change_users<U: Disk + Drop, G: Gate, N: Notes, R: Wait>(
     gate: &mut G,
     notes: &mut N,
     rt: &R,
-) -> Option<Ask>
+) -> Result<Ask, Stopped>
     requires changing { IsChanging op }
     requires named { NamesUid op }
     requires no_rows { users.old.rows.items ≡ [] }
     ensures same { IsSameUserSeat users.old.seat users.new.seat }
-    ensures asked { AskedIs users.old.seat (to_do op) heard_ask users.new.rows.items
-        users.new.seat.seen (G.asked gate.old gate.new) result }
+    ensures asked { AskedAt users.old.seat (to_do op) heard_ask
+        (left users.new.rows.items users.new.seat.seen (G.asked gate.old gate.new)) result }
     ensures noted { UsersNoted (N.noted notes.old notes.new) user.now tag.now (to_do op) result }
-    ensures apt { (d : Dimensions) → IfSome result (IsAptAsk d) }
-    ensures unstopped { result ≢ None → G.stops gate.new ≡ G.stops gate.old }
-    ensures stopped { result ≡ None → Rose (G.stops gate.old) (G.stops gate.new) }
-    ensures later { G.stops gate.old ≤ G.stops gate.new }
+    ensures apt { (d : Dimensions) → IfOk result (IsAptAsk d) }
+    ensures stopped { RoseOnlyFor (G.stops gate.old) (G.stops gate.new) (IsErr result) }
 {
     let change = user_change_of(&op);
-    match users.seat.change(op, gate, rt) {
+    match users.seat.change(op, gate, rt)? {
         UserTook::Done => {
             note_user_command(notes, user, tag, change, Outcome::Done);
-            Some(Ask::Completes)
+            Ok(Ask::Completes)
         }
         UserTook::Denied(cause) => {
             note_user_command(notes, user, tag, change, Outcome::Denied(cause));
-            Some(Ask::Refused(cause))
+            Ok(Ask::Refused(cause))
         }
-        UserTook::Stopped => None,
     }
 }

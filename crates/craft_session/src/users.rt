@@ -1,25 +1,27 @@
 //! The turns of one place with the users.
-ghost use Rattle.std.specs.Prelude.{◌≡◌, ◌≢◌, ◌≤◌, List, MatchResult};
+ghost use Rattle.std.specs.Prelude.{◌≡◌, List, IsErr};
 ghost use Rattle.std.specs.Arc.{arc_value};
-ghost use Rattle.dxc_causes.specs.Causes.{Rose};
+ghost use Rattle.dxc_causes.specs.Stops.{RoseOnlyFor};
 ghost use Rattle.user_admin.specs.declared.op.UserEntry.{UserEntry as Entry};
 ghost use Rattle.user_admin.specs.Openings.{asked_at_turn};
 ghost use Rattle.user_admin.specs.Resting.{SawRest};
-ghost use Rattle.user_admin.specs.Spellable.{NamesUid};
-ghost use Rattle.user_admin.specs.Turns.{AreNumbered, Cancels, LoggedIn, LookedAt, RowsAre, RowsDenied, Saw, TookIs};
+ghost use Rattle.tl1_users.specs.Commands.{NamesUid};
+ghost use Rattle.user_admin.specs.Turns.{AreNumbered, Cancels, LookedAt, Saw};
 ghost use Rattle.user_admin.specs.Verdicts.{IsChanging};
 ghost use Rattle.craft_session.specs.Seats.{IsSameUserSeat, IsUserSeated, user_seat_at};
+ghost use Rattle.craft_session.specs.Turns.{ChangesUsers, ListsUsers, LogsIn};
 
 use crate::guesses::Guesses;
-use crate::secrets::Secrets;
+use crate::secrets::{Operation, Secrets};
 use dxc_disk::Disk;
 use dxc_model::{Cause, Class, Uid};
-use dxc_outside::Gate;
+use dxc_outside::{Gate, Stopped};
 use std::marker::Model;
 use std::sync::{Arc, Wait};
+use tl1_users::UserOp;
 use turnstile::{Pass, Turnstile};
 use user_admin::turns::{self, UserTook};
-use user_admin::{SharedUsers, UserOp, UserRows};
+use user_admin::{SharedUsers, UserRows};
 
 /// The right of one place to take turns at the users. Contracts see where their history began, the number of the place, and what it has seen of
 /// the history.
@@ -66,9 +68,8 @@ impl<U: Disk + Drop> UserSeat<U> {
     /// logs in.
     pub fn login<R: Wait>(&mut self, vacant: bool, uid: Uid, pid: &[u8], rt: &R) -> Option<Class>
         ensures same { IsSameUserSeat self.old self.new }
-        ensures logged { (h : List Entry) → Saw self.old.opening self.old.seen h
-            → LoggedIn self.old.opening self.old.place h
-            (record { vacant = vacant; uid = uid; pid = pid.now }) self.new.seen result }
+        ensures logged { LogsIn self.old (record { vacant = vacant; uid = uid; pid = pid.now })
+            self.new.seen result }
     {
         turns::login(&mut self.pass, &self.turns, vacant, uid, pid, rt)
     }
@@ -94,34 +95,36 @@ impl<U: Disk + Drop> UserSeat<U> {
     /// The names of all users with their classes, in order of names, or of one; UnknownUser is the only cause against it.
     pub fn rows<R: Wait>(&mut self, which: Option<Uid>, rt: &R) -> Result<UserRows, Cause>
         ensures same { IsSameUserSeat self.old self.new }
-        ensures rows { (h : List Entry) → Saw self.old.opening self.old.seen h → MatchResult result
-            (λ given. RowsAre self.old.opening self.old.place h which self.new.seen given.items)
-            (RowsDenied self.old.opening self.old.place h which self.new.seen) }
+        ensures rows { ListsUsers self.old which self.new.seen result }
     {
         turns::rows(&mut self.pass, &self.turns, which, rt)
     }
 
     /// Makes the change of a changing operation.
-    pub fn change<G: Gate, R: Wait>(&mut self, op: UserOp, gate: &mut G, rt: &R) -> UserTook
+    pub fn change<G: Gate, R: Wait>(
+        &mut self,
+        op: UserOp,
+        gate: &mut G,
+        rt: &R,
+    ) -> Result<UserTook, Stopped>
         requires changing { IsChanging op }
         requires named { NamesUid op }
         ensures same { IsSameUserSeat self.old self.new }
-        ensures took { (h : List Entry) → Saw self.old.opening self.old.seen h
-            → TookIs self.old.opening self.old.place h op self.new.seen result }
-        ensures stopped { result ≡ UserTook.Stopped → Rose (G.stops gate.old) (G.stops gate.new) }
-        ensures unstopped { result ≢ UserTook.Stopped → G.stops gate.new ≡ G.stops gate.old }
-        ensures later { G.stops gate.old ≤ G.stops gate.new }
+        ensures took { ChangesUsers self.old op self.new.seen result }
+        ensures stopped { RoseOnlyFor (G.stops gate.old) (G.stops gate.new) (IsErr result) }
         ensures asked { G.asked gate.old gate.new (asked_at_turn result) }
     {
         turns::change(&mut self.pass, &self.turns, op, gate, rt)
     }
 }
 
-/// A seat at the users, the rows that it read last, how often a log-in was denied there, and whether a PID is to be written over.
+/// A seat at the users, the rows that it read last, how often a log-in was denied there, whether a PID is to be written over, and what a unit asks
+/// of the users.
 #[derive(Drop)]
 pub struct UserDesk<U: Disk> {
     pub seat: UserSeat<U>,
     pub rows: UserRows,
     pub guesses: Guesses,
     pub secrets: Secrets,
+    pub asked: Operation,
 }

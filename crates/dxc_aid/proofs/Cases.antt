@@ -41,7 +41,7 @@ split_some true front text rest c_is is =
     ∙ sym (map-append to_ascii_lowercase front rest)
 split_some false front text rest c_is is = cc
 
--- what stands behind four bytes
+-- what stands after four bytes
 pub behind_is : (front text rest : List ℕ) → behind front text ≡ Some rest → IsSameText text (front ++ rest)
 behind_is front text rest is = split_some (is_same_text (take 4 text) front) front text rest refl is
 

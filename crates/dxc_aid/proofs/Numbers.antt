@@ -130,7 +130,7 @@ at_first p t i lt is = let test : nat_lt i (length t) ≡ true = grind (arith, n
 no_dash : (x : ℕ) → 48 ≤ x → (x == 45) ≡ false
 no_dash x le = grind (arith, nat_tests, le)
 
--- the first dash behind digits
+-- the first dash after digits
 pub dash_behind : (n : ℕ) (t rest : List ℕ) → Digits n t → position (λ b. b == 45) (t ++ 45 ∷ rest) ≡ Some (length t)
 dash_behind n _ rest (one_digit lt) = at_first (λ b. b == 45) ((48 + n) ∷ 45 ∷ rest) 1 (omega arith) (rw (no_dash (48 + n) (omega arith)) (refl))
 dash_behind n _ rest (two_digits ge le) = at_first (λ b. b == 45) ((48 + n / 10) ∷ (48 + n % 10) ∷ 45 ∷ rest) 2 (omega arith) (rw (no_dash (48 + n / 10) (omega arith), no_dash (48 + n % 10) (omega arith)) (refl))

@@ -24,7 +24,7 @@ then_some f (Some x) y is = (x, (refl, is))
 plain_number : (n : ℕ) → n ≤ 99 → no_letters (decimal n) ≡ true
 plain_number n le = ap no_letters (sym (append-nil (decimal n))) ∙ digits_no_letters n (decimal n) [] (digits_of n le) refl
 
--- what a text numbers behind four bytes is what it writes there, and what it writes there is what it numbers
+-- what a text numbers after four bytes is what it writes there, and what it writes there is what it numbers
 pub numbered_is : (front : List ℕ) (most : ℕ) (text : List ℕ) (k : ℕ) → numbered front most text ≡ Some k → (k < most) × IsSameText text (front ++ decimal (k + 1))
 numbered_is front most text k is =
     let found = map_some (λ n. n - 1) (option_and_then (up_to most) (option_and_then number_of (behind front text))) k is in

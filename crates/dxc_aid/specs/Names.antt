@@ -63,7 +63,7 @@ up_to most n = if nat_le n most then Some n else None
 abbrev pub behind : List ℕ → List ℕ → Option (List ℕ)
 behind front text = if is_same_text (take 4 text) front then Some (drop 4 text) else None
 
--- what a text numbers behind four bytes, from 0; written it is from 1 up to a most
+-- what a text numbers after four bytes, from 0; written it is from 1 up to a most
 abbrev pub numbered : List ℕ → ℕ → List ℕ → Option ℕ
 numbered front most text = option_map (λ n. n - 1) (option_and_then (up_to most) (option_and_then number_of (behind front text)))
 

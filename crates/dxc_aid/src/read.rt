@@ -128,7 +128,7 @@ fn number_up_to(most: u16, text: &[u8]) -> Option<u16>
     if number <= most { Some(number) } else { None }
 }
 
-/// What a text numbers behind four bytes: written it is from 1 up to a most, told from 0.
+/// What a text numbers after four bytes: written it is from 1 up to a most, told from 0.
 fn number_behind(front: &[u8; 4], most: u16, text: &[u8]) -> Option<u16>
     ensures number { result ≡ numbered front.now most text.now }
     ensures range { IfSome result (λ n. n < most) }

@@ -3,7 +3,7 @@ ghost use Rattle.std.specs.Prelude.{◌≡◌, ◌≤◌, ◌+◌, ◌++◌, [],
 
 use std::marker::Model;
 
-/// A text that is being written, of at most N bytes. What is put behind it has its length in its type, so that it takes a
+/// A text that is being written, of at most N bytes. What is put after it has its length in its type, so that it takes a
 /// few moves and no call.
 #[derive(Drop)]
 pub struct Text<const N: usize> {
@@ -62,7 +62,7 @@ impl<const N: usize> Text<N> {
         &self.bytes[..self.len]
     }
 
-    /// Puts a text behind whose length is known.
+    /// Puts a text after whose length is known.
     #[inline(always)]
     pub fn put<const M: usize>(&mut self, text: &[u8; M])
         requires { length self.old + M ≤ N }
@@ -74,7 +74,7 @@ impl<const N: usize> Text<N> {
         self.append_long(&text);
     }
 
-    /// Puts a text of any length behind; one of at most 64 bytes, as most are, by two moves.
+    /// Puts a text of any length after; one of at most 64 bytes, as most are, by two moves.
     #[inline(always)]
     pub fn append(&mut self, text: &[u8])
         requires { length self.old + length text.now ≤ N }
@@ -91,7 +91,7 @@ impl<const N: usize> Text<N> {
         }
     }
 
-    /// Puts a text behind by its first bytes and its last, which may lie over one another.
+    /// Puts a text after by its first bytes and its last, which may lie over one another.
     #[inline(always)]
     fn put_ends<const M: usize>(&mut self, text: &[u8])
         requires least { M ≤ length text.now }

@@ -20,7 +20,7 @@ pub fn write_port<const N: usize>(shape: Shape, port: Port, out: &mut ArrayVec<u
     append(out, name.bytes());
 }
 
-/// Puts the port's name behind the text, in upper case.
+/// Puts the port's name after the text, in upper case.
 #[inline(always)]
 pub fn put_port<const N: usize>(shape: Shape, port: Port, out: &mut Text<N>)
     requires inside { IsPort shape port }
@@ -35,7 +35,7 @@ pub fn put_port<const N: usize>(shape: Shape, port: Port, out: &mut Text<N>)
     put_number(slot, out);
 }
 
-/// Puts a number below 100 behind the text, in decimal.
+/// Puts a number below 100 after the text, in decimal.
 #[inline(always)]
 fn put_number<const N: usize>(number: u16, out: &mut Text<N>)
     requires below { number ≤ 99 }

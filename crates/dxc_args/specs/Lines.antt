@@ -5,6 +5,7 @@ use Rattle.std.specs.Str.{bytes_eq}
 use Rattle.std.specs.Char.{is_ascii_digit}
 use Rattle.std.specs.List.{list_all, list_any}
 use Rattle.dxc_num.specs.Dimensions.{IsInLimits}
+use Rattle.dxc_args.specs.Counts.{AreFew}
 use Rattle.dxc_args.specs.declared.line.Line.{Line}
 use Rattle.dxc_args.specs.declared.line.Line.TheVariants.{Script, Trial, Check, Export, Serve, Standby, Load}
 use Rattle.dxc_args.specs.declared.line.Mode.{Mode}
@@ -45,7 +46,7 @@ words_of (Script shelf journal) = codes "script" ∷ shelf ∷ journal ∷ []
 words_of (Trial shape) = codes "script" ∷ decimal shape.modules ∷ decimal shape.slots ∷ []
 words_of (Check shelf journal) = codes "check" ∷ shelf ∷ journal ∷ []
 words_of (Export shelf journal) = codes "export" ∷ shelf ∷ journal ∷ []
-words_of (Serve shelf journal address lines workers peer) = codes "serve" ∷ shelf ∷ journal ∷ address ∷ lines ∷ decimal workers ∷ peer_words peer
+words_of (Serve x) = codes "serve" ∷ x.shelf ∷ x.journal ∷ x.address ∷ x.lines ∷ decimal x.workers ∷ peer_words x.peer
 words_of (Standby journal address) = codes "standby" ∷ journal ∷ address ∷ []
 words_of (Load number) = codes "load" ∷ decimal number ∷ []
 
@@ -55,7 +56,7 @@ IsInRange (Script shelf journal) = are_numbers shelf journal ≡ false
 IsInRange (Trial shape) = IsInLimits shape
 IsInRange (Check shelf journal) = Unit {0}
 IsInRange (Export shelf journal) = Unit {0}
-IsInRange (Serve shelf journal address lines workers peer) = (1 ≤ workers) × (workers ≤ 8)
+IsInRange (Serve x) = AreFew x.workers
 IsInRange (Standby journal address) = Unit {0}
 IsInRange (Load number) = number < 2 ^ 64
 

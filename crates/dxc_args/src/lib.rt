@@ -5,6 +5,8 @@ mod line;
 mod matching;
 mod number;
 mod status;
+mod workers;
 
-pub use line::{Line, WordsFault, line_of};
+pub use line::{Line, ServeLine, WordsFault, line_of};
 pub use status::{JournalBad, Status};
+pub use workers::Workers;

@@ -4,6 +4,7 @@ ghost use Rattle.std.specs.List.{list_any};
 
 use crate::matching::name_matches;
 use crate::number::{is_number, number_of, shape_of, workers_of};
+use crate::workers::Workers;
 use dxc_num::Shape;
 use dxc_outside::Name;
 use std::alloc::Global;
@@ -12,42 +13,30 @@ use std::alloc::Global;
 #[derive(Drop)]
 pub enum Line {
     /// One session over the terminal.
-    Script {
-        shelf: Name,
-        journal: Name,
-    },
+    Script { shelf: Name, journal: Name },
     /// One session over the terminal, on a new element of that shape whose journals are in memory.
-    Trial {
-        shape: Shape,
-    },
+    Trial { shape: Shape },
     /// The rows of the table, and how many records the journal has.
-    Check {
-        shelf: Name,
-        journal: Name,
-    },
+    Check { shelf: Name, journal: Name },
     /// The commands that make the same table on an element without connections.
-    Export {
-        shelf: Name,
-        journal: Name,
-    },
+    Export { shelf: Name, journal: Name },
     /// Sessions over TCP, and workers that carry frames; with a peer, its standby gets a copy of the journal.
-    Serve {
-        shelf: Name,
-        journal: Name,
-        address: Name,
-        lines: Name,
-        workers: u16,
-        peer: Option<Name>,
-    },
+    Serve(ServeLine),
     /// The copy of a journal at a second controller.
-    Standby {
-        journal: Name,
-        address: Name,
-    },
+    Standby { journal: Name, address: Name },
     /// The load script of that number, on a disk in memory.
-    Load {
-        number: u64,
-    },
+    Load { number: u64 },
+}
+
+/// What is served: the names of shelf file, journal, address and lines, the workers, and a peer if there is one.
+#[derive(Drop)]
+pub struct ServeLine {
+    pub shelf: Name,
+    pub journal: Name,
+    pub address: Name,
+    pub lines: Name,
+    pub workers: Workers,
+    pub peer: Option<Name>,
 }
 
 /// Why the words give no line.
@@ -62,8 +51,8 @@ pub enum WordsFault {
 const MOST_WORDS: usize = 7;
 
 /// The line that the words spell: `script SHELF JOURNAL`, `script MODULES SLOTS` with the numbers of a shape, `check SHELF JOURNAL`,
-/// `export SHELF JOURNAL`, `serve SHELF JOURNAL ADDRESS LINES WORKERS` with 1 to 8 workers, and the same with PEER behind it, `standby JOURNAL ADDRESS`, or
-/// `load NUMBER` with a number of 64 bits. Behind `script` two words of digits alone are no names. No word begins with a dash.
+/// `export SHELF JOURNAL`, `serve SHELF JOURNAL ADDRESS LINES WORKERS` with 1 to 8 workers, and the same with PEER after it, `standby JOURNAL ADDRESS`, or
+/// `load NUMBER` with a number of 64 bits. After `script` two words of digits alone are no names. No word begins with a dash.
 pub fn line_of(alloc: Global, words: &[Name]) -> Result<Line, WordsFault>
     ensures line { IfOk result (λ l. IsLine words.now l) }
     ensures no_line { result ≡ Err WordsFault.BadWords → (l : Line) → IsLine words.now l → ⊥ }
@@ -118,7 +107,7 @@ fn mode_of(word: &str) -> Option<Mode>
     }
 }
 
-// The line of a mode and the words behind it.
+// The line of a mode and the words after it.
 fn line_with(alloc: Global, mode: &str, rest: &[&str]) -> Result<Line, WordsFault>
     ensures line { IfOk result (Spells (mode.now ∷ texts rest.now)) }
     ensures no_line { result ≡ Err WordsFault.BadWords → (l : Line)
@@ -159,7 +148,7 @@ fn script_line(alloc: Global, rest: &[&str]) -> Result<Line, WordsFault>
     })
 }
 
-// The line of two words behind `script` that are digits alone.
+// The line of two words after `script` that are digits alone.
 fn trial_line(modules: &Name, slots: &Name) -> Result<Line, WordsFault>
     ensures line { IfOk result (Spells (codes "script" ∷ modules.now ∷ slots.now ∷ [])) }
     ensures no_line { are_numbers modules.now slots.now ≡ true → result ≡ Err WordsFault.BadWords
@@ -189,31 +178,31 @@ fn serve_line(alloc: Global, rest: &[&str]) -> Result<Line, WordsFault>
         → Spells (codes "serve" ∷ texts rest.now) l → ⊥ }
 {
     match rest {
-        [shelf, journal, address, lines, workers, behind @ ..] => {
+        [shelf, journal, address, lines, workers, last @ ..] => {
             let Some(workers) = workers_of(workers) else {
                 return Err(WordsFault::BadWords);
             };
-            let peer = peer_in(alloc, behind)?;
-            Ok(Line::Serve {
+            let peer = peer_in(alloc, last)?;
+            Ok(Line::Serve(ServeLine {
                 shelf: name_of(alloc, shelf)?,
                 journal: name_of(alloc, journal)?,
                 address: name_of(alloc, address)?,
                 lines: name_of(alloc, lines)?,
                 workers,
                 peer,
-            })
+            }))
         }
         _ => Err(WordsFault::BadWords),
     }
 }
 
 // The peer that the last word of `serve` names, where there is one.
-fn peer_in(alloc: Global, behind: &[&str]) -> Result<Option<Name>, WordsFault>
-    ensures peer { IfOk result (λ p. texts behind.now ≡ peer_words p) }
+fn peer_in(alloc: Global, last: &[&str]) -> Result<Option<Name>, WordsFault>
+    ensures peer { IfOk result (λ p. texts last.now ≡ peer_words p) }
     ensures no_peer { result ≡ Err WordsFault.BadWords → (p : Option (List ℕ))
-        → texts behind.now ≢ peer_words p }
+        → texts last.now ≢ peer_words p }
 {
-    match behind {
+    match last {
         [] => Ok(None),
         [peer] => Ok(Some(name_of(alloc, peer)?)),
         _ => Err(WordsFault::BadWords),

@@ -8,7 +8,7 @@ use clap::{Arg, ArgMatches, Command};
 use dxc_outside::Name;
 use std::alloc::{AllocError, Global};
 
-/// The one command: a mode, and the words behind it.
+/// The one command: a mode, and the words after it.
 fn line_command<'a>(alloc: Global) -> Result<Command<'a>, AllocError>
     ensures { IfOk result (λ c. app_of c ≡ line_app) }
 {
@@ -24,7 +24,7 @@ fn line_command<'a>(alloc: Global) -> Result<Command<'a>, AllocError>
         .arg(rest)
 }
 
-/// Reads a mode and the words behind it. It is refused for want of memory alone.
+/// Reads a mode and the words after it. It is refused for want of memory alone.
 pub(crate) fn name_matches<'a>(
     alloc: Global,
     words: &'a [Name],

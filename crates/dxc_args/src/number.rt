@@ -2,8 +2,10 @@ ghost use Rattle.std.specs.Prelude.{◌≡◌, ◌^◌, ◌<◌, ◌≤◌, ℕ,
 ghost use Rattle.std.specs.Char.{is_ascii_digit};
 ghost use Rattle.std.specs.List.{list_all};
 ghost use Rattle.dxc_num.specs.Dimensions.{Dimensions, IsInLimits};
+ghost use Rattle.dxc_args.specs.Counts.{AreFew};
 ghost use Rattle.dxc_args.specs.Lines.{is_number as reads_as_number};
 
+use crate::workers::Workers;
 use dxc_num::Shape;
 use itoa::Buffer;
 
@@ -20,16 +22,13 @@ pub(crate) fn number_of(text: &str) -> Option<u64>
     }
 }
 
-/// The number of workers that a text spells, from 1 to 8.
-pub(crate) fn workers_of(text: &str) -> Option<u16>
-    ensures spelled { IfSome result (λ n. (text.now ≡ decimal n) × (1 ≤ n) × (n ≤ 8)) }
-    ensures read { (n : ℕ) → 1 ≤ n → n ≤ 8 → text.now ≡ decimal n → result ≡ Some n }
+/// The number of workers that a text spells.
+pub(crate) fn workers_of(text: &str) -> Option<Workers>
+    ensures spelled { IfSome result (λ n. (text.now ≡ decimal n) × AreFew n) }
+    ensures read { (n : ℕ) → AreFew n → text.now ≡ decimal n → result ≡ Some n }
 {
     let number = number_of(text)?;
-    if number < 1 || 8 < number {
-        return None;
-    }
-    Some(number as u16)
+    Workers::new(number)
 }
 
 /// Whether a word is digits alone.

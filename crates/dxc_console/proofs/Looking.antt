@@ -10,7 +10,7 @@ look_of (Script shelf journal) = refl
 look_of (Trial shape) = refl
 look_of (Check shelf journal) = refl
 look_of (Export shelf journal) = refl
-look_of (Serve shelf journal address lines workers peer) = refl
+look_of (Serve x) = refl
 look_of (Standby journal address) = refl
 look_of (Load number) = refl
 

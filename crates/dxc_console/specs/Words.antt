@@ -15,7 +15,7 @@ looks_only (Script shelf journal) = false
 looks_only (Trial shape) = false
 looks_only (Check shelf journal) = true
 looks_only (Export shelf journal) = true
-looks_only (Serve shelf journal address lines workers peer) = false
+looks_only (Serve x) = false
 looks_only (Standby journal address) = false
 looks_only (Load number) = false
 

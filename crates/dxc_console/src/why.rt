@@ -159,7 +159,7 @@ fn is_number(word: &str) -> bool {
     !word.is_empty() && word.as_bytes().iter().all(|byte| byte.is_ascii_digit())
 }
 
-// The first number behind `script` that is none of a shape. None: there aren't two numbers, or they are a shape.
+// The first number after `script` that is none of a shape. None: there aren't two numbers, or they are a shape.
 fn count_at_fault(words: &[Name]) -> Option<BadCount<'_>> {
     let [mode, modules, slots] = words else {
         return None;

@@ -32,7 +32,7 @@ fn add_words(mut args: Args, words: &mut Vec<Name>) -> Result<(), NoMemory>
     Ok(())
 }
 
-/// Whether the words are of a mode that changes no file, whatever stands behind it.
+/// Whether the words are of a mode that changes no file, whatever comes after it.
 pub fn only_look(words: &[Name]) -> bool
     ensures look { result ≡ is_look words.now }
     ensures line { (l : Line) → IsLine words.now l → result ≡ looks_only l }

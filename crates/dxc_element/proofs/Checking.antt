@@ -1,4 +1,4 @@
--- Rows are written one after the other, and what comes behind them.
+-- Rows are written one after the other, and what comes after them.
 use Rattle.std.proofs.Common.{◌≡◌, ◌<◌, ◌+◌, ℕ, Bool, true, false, if◌then◌else◌, List, [], ◌∷◌, ◌++◌, length, take, drop, slice_index_or, refl, sym, ◌∙◌, ap, subst, arith, append_assoc, append-nil, take-append-drop}
 use Rattle.std.specs.Prelude.{filter}
 use Rattle.std.specs.List.{AllByRecursion, flat_map}
@@ -16,7 +16,7 @@ use Rattle.dxc_outside.proofs.LinkSteps.{wrote_none, wrote_more, sent_whole}
 pub sent_none : (told : Type 0) (k : LinkState) → IsSent told k k Whole []
 sent_none told k = record { part = []; rest = []; split = refl; wrote = wrote_none told k; whole = λ _. refl; cause = record { later = omega arith; cause = λ is. cc }; no_fault = λ _. refl }
 
--- more was written behind it
+-- more was written after it
 pub sent_more : (told : Type 0) (k j m : LinkState) (xs ys : List ℕ) (sent : Sent) → IsSent told k j Whole xs → IsSent told j m sent ys → IsSent told k m sent (xs ++ ys)
 sent_more told k j m xs ys sent first next = record {
   part = xs ++ next.part;
@@ -28,7 +28,7 @@ sent_more told k j m xs ys sent first next = record {
   no_fault = λ is. next.no_fault is ∙ first.no_fault refl;
 }
 
--- nothing was written behind what was cut
+-- nothing was written after what was cut
 pub sent_cut : (told : Type 0) (k m : LinkState) (xs ys : List ℕ) (sent : Sent) → sent ≡ Cut → IsSent told k m sent xs → IsSent told k m Cut (xs ++ ys)
 sent_cut told k m xs ys sent is s = record {
   part = s.part;

@@ -13,7 +13,7 @@ use Rattle.tl1_script.specs.Scripts.{changes_to}
 use Rattle.tl1_script.proofs.Lines.{line_more, lines_left}
 use Rattle.xc_core.specs.declared.state.State.{State}
 use Rattle.xc_core.specs.Openings.{Begins}
-use Rattle.xc_core.specs.States.{Opening, opening_of}
+use Rattle.xc_core.specs.States.{opening_of}
 use Rattle.dxc_element.specs.Exports.{script}
 use Rattle.dxc_element.proofs.Audits.{table_first}
 use Rattle.dxc_element.proofs.Checking.{sent_cut, sent_more}

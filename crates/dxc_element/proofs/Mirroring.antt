@@ -15,22 +15,23 @@ use Rattle.dxc_element.specs.declared.opening.Controller.{Controller}
 use Rattle.dxc_element.specs.declared.opening.Element.{Element}
 use Rattle.dxc_args.specs.declared.status.Status.{Status}
 use Rattle.dxc_element.specs.Openings.{AreUsersNotStarted, AreUsersStarted, IsStarted, IsUnopened, Named, NotStarted, Sources, users_name}
-use Rattle.dxc_element.specs.Peers.{BeganMirrored, FoundMirror, FoundUsersMirror, HasMirrored, HasMirroredUsers, IsMirrorOf, IsOpenedOn, IsUnused, Mirrors, MirrorsUsers, NoMirrored, NoMirroredUsers, Peering, mirror_state}
+use Rattle.dxc_element.specs.Lenders.{Lender}
+use Rattle.dxc_element.specs.Peers.{BeganMirrored, FoundMirror, FoundUsersMirror, HasMirrored, HasMirroredUsers, IsMirrorOf, IsOpenedOn, IsUnused, Mirrors, MirrorsUsers, NoMirrored, NoMirroredUsers, mirror_state}
 use Rattle.dxc_element.proofs.Starting.{begun, unopened_behind, users_apart}
 
--- nothing was done with a disk of this name behind a call that handed out nothing of the name
+-- nothing was done with a disk of this name after a call that handed out nothing of the name
 pub unused_at : {D : Type 0} (opener_told : Type 0) (gone : AnyValue → Type 0) (name : List ℕ) (before mid after : List ℕ → Option D) → (opener_told → mid name ≡ before name) → IsUnused opener_told gone name mid after → IsUnused opener_told gone name before after
 unused_at opener_told gone name before mid after same unused = elim unused [
   | inl kept ↦ inl (λ t. kept t ∙ same t)
   | inr left ↦ inr (record { disk = left.disk; handed = λ t. sym (same t) ∙ left.handed t; let_go = left.let_go })
 ]
 
--- nor behind the reading of a shelf file
+-- nor after the reading of a shelf file
 pub unused_behind : {D : Type 0} (opener_told : Type 0) (gone : AnyValue → Type 0) (name : List ℕ) (before mid after : List ℕ → Option D) → (opener_told → (n : List ℕ) → mid n ≡ before n) → IsUnused opener_told gone name mid after → IsUnused opener_told gone name before after
 unused_behind opener_told gone name before mid after same unused = unused_at opener_told gone name before mid after (λ t. same t name) unused
 
 module _ {D K : Type 0} (told link_told : Type 0) (state : D → DiskState) (link : K → LinkState) (opener_told : Type 0) where
-  -- a mirror of what is handed out behind the reading of a shelf file
+  -- a mirror of what is handed out after the reading of a shelf file
   pub mirror_behind : (old_at mid_at : List ℕ → Option D) (journal : List ℕ) (m : MirrorDisk D K) → (opener_told → (n : List ℕ) → mid_at n ≡ old_at n) → IsMirrorOf told link_told state link opener_told mid_at journal m → IsMirrorOf told link_told state link opener_told old_at journal m
   mirror_behind old_at mid_at journal m same is = record { disk = is.disk; handed = λ t. sym (same t journal) ∙ is.handed t; is_mirror = is.is_mirror }
 
@@ -61,11 +62,11 @@ module _ {D K : Type 0} (told link_told : Type 0) (state : D → DiskState) (lin
         | inr ran ↦ inr (ran.0, ran.1, ran.2, ran.3, on ran.0.shelf ran.1 ran.3.opening ran.4)
       ])
 
-module _ {O : Type 0} (w : Peering O) (names : Named) (before mid after : Sources w.Disk) (others : w.opener.told → (n : List ℕ) → n ≢ names.journal → mid.journal_at n ≡ before.journal_at n) (s lent : Contents) (is : lent ≡ s) where
+module _ {O : Type 0} (w : Lender O) (names : Named) (before mid after : Sources w.Disk) (others : w.opener.told → (n : List ℕ) → n ≢ names.journal → mid.journal_at n ≡ before.journal_at n) (s lent : Contents) (is : lent ≡ s) where
   users_at : w.opener.told → mid.journal_at (users_name names.journal) ≡ before.journal_at (users_name names.journal)
   users_at t = others t (users_name names.journal) (users_apart names.journal)
 
-  -- the mirror that was made behind an earlier call is one of what was there before that
+  -- the mirror that was made after an earlier call is one of what was there before that
   found_users : MirrorsUsers w mid.journal_at names.journal → FoundUsersMirror w.disk.told w.peer.told w.disk.state w.peer.state w.opener.told names before
   found_users u = record {
     mirror = u.mirror;
@@ -85,7 +86,7 @@ module _ {O : Type 0} (w : Peering O) (names : Named) (before mid after : Source
     | inr not ↦ inr (found_users not.0, subst (λ (y : Contents). AreUsersNotStarted w.disk.told (mirror_state w.disk.state) w.gone not.0.mirror y status) is not.1)
   ]
 
-module _ {O : Type 0} (w : Peering O) (old new : O) (journal name : List ℕ) (is : name ≡ users_name journal) where
+module _ {O : Type 0} (w : Lender O) (old new : O) (journal name : List ℕ) (is : name ≡ users_name journal) where
   -- a mirror of the disk of that name is one of the users' journal's
   users_mirror : (m : MirrorDisk w.Disk w.Peer) → IsMirrorOf w.disk.told w.peer.told w.disk.state w.peer.state w.opener.told (w.opener.journal_at old) name m → MirrorsUsers w (w.opener.journal_at old) journal
   users_mirror m x = record { mirror = m; mirrors = subst (λ (n : List ℕ). IsMirrorOf w.disk.told w.peer.told w.disk.state w.peer.state w.opener.told (w.opener.journal_at old) n m) is x }

@@ -1,5 +1,5 @@
 -- A controller that was opened, or wasn't.
-use Rattle.std.proofs.Common.{◌≡◌, ◌≢◌, ◌⊎◌, ◌≤◌, ℕ, Bool, List, length, length-append, codes, Option, Some, Result, Ok, Err, inl, inr, refl, sym, ◌∙◌, ap, subst, arith}
+use Rattle.std.proofs.Common.{◌≡◌, ◌≢◌, ◌⊎◌, ◌≤◌, ℕ, List, length, length-append, codes, Option, Some, Result, Ok, Err, inl, inr, sym, ◌∙◌, ap, subst, arith}
 use Rattle.std.specs.Prelude.{MatchResult, IfSome}
 use Rattle.std.specs.Arc.{arc_value}
 use Rattle.dxc_causes.specs.Causes.{HasCause, Rose}
@@ -27,7 +27,7 @@ use Rattle.xc_core.specs.States.{Opening, opening_of}
 use Rattle.xc_recovery.proofs.LastWorks.{comes_shape}
 use Rattle.dxc_element.specs.declared.opening.Controller.{Controller}
 use Rattle.dxc_args.specs.declared.status.Status.{Status}
-use Rattle.dxc_args.specs.declared.status.Status.TheVariants.{CannotOpen, NoMemory}
+use Rattle.dxc_args.specs.declared.status.Status.TheVariants.{NoMemory}
 use Rattle.dxc_jobs.proofs.Counting.{rose_behind}
 use Rattle.dxc_element.specs.Openings.{AreUsersNotStarted, AreUsersStarted, Began, Found, HasController, HasOpening, HasUsers, IsKept, IsStarted, IsTaken, IsUnopened, Named, NoController, NoUsers, NotStarted, Opens, Sources, StartFails, users_name}
 
@@ -45,7 +45,7 @@ kept_by opener_told name before mid after opened (Open d) is closed same hands t
 kept_by {D} opener_told name before mid after opened Failed is closed same hands t = subst (λ (x : Opened D). Hands x (mid name) (after name)) is (hands t) ∙ same t name
 kept_by {D} opener_told name before mid after opened unopened.NoMemory is closed same hands t = subst (λ (x : Opened D). Hands x (mid name) (after name)) is (hands t) ∙ same t name
 
--- what couldn't be opened behind an earlier call
+-- what couldn't be opened after an earlier call
 pub unopened_behind : (faults mid later : ℕ) (status : Status) → faults ≤ mid → IsUnopened mid later status → IsUnopened faults later status
 unopened_behind faults mid later status low none = elim none [ inl m ↦ inl m | inr f ↦ inr (f.0, rose_behind faults mid later low f.1) ]
 

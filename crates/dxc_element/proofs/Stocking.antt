@@ -16,10 +16,10 @@ use Rattle.xc_core.specs.Seeing.{Saw, codes, entry_coded, place_of}
 use Rattle.xc_core.specs.States.{HomeIs, Opening, Stands, StandsFor, began, opening_of}
 use Rattle.xc_core.proofs.Standing.{table_is}
 use Rattle.dxc_element.specs.declared.stock.Stock.{Stock}
-use Rattle.dxc_element.specs.Stocks.{IsAway, IsCounted, IsHeldUp, IsLeft, IsStock, IsStockAfter}
+use Rattle.dxc_element.specs.Stocks.{IsAway, IsCounted, IsHeldUp, IsLeft, IsStock, IsStockAfter, among}
 
 module _ {D : Type 0} (told : Type 0) (state : D → DiskState) where
-  -- a state that was found stands for a history behind the opening
+  -- a state that was found stands for a history after the opening
   pub found_stands : (o : Opening) (x : State D) (h : List Entry) → opening_of state x ≡ o → Stands told state x h → StandsFor told state o x (began o.due ++ h)
   found_stands o x h is st = subst (λ (p : Opening). StandsFor told state p x (began p.due ++ h)) is st
 
@@ -55,7 +55,7 @@ module _ {D : Type 0} (told : Type 0) (state : D → DiskState) where
       }
 
   -- the same where its Provisioner is away
-  pub held_up_at : (o : Opening) (own by places : ℕ) (h : List Entry) (seen in_turn : List Gv) (x : State D) → by ≡ own → Found entry_coded.code (opening_of state) place_of (Stands told state) by places o seen x in_turn → Saw o seen h → IsAway x → IsHeldUp told state own places o h
+  pub held_up_at : (o : Opening) (own by places : ℕ) (h : List Entry) (seen in_turn : List Gv) (x : State D) → by ≡ own → Found entry_coded.code (opening_of state) place_of (Stands told state) by places o seen x in_turn → Saw o seen h → IsAway x → IsHeldUp told state (among own places) o h
   held_up_at o own by places h seen in_turn x is f saw away =
       let d = began o.due in
       let same : d ++ f.begun ≡ h = map_once entry_coded.code entry_coded.inj (d ++ f.begun) h (map-append entry_coded.code d f.begun ∙ ap (λ (l : List Gv). codes d ++ l) (sym f.before) ∙ saw.codes_are) in

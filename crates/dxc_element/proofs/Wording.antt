@@ -1,4 +1,4 @@
--- How an opening ends, and what was done behind one.
+-- How an opening ends, and what was done after one.
 use Rattle.std.proofs.Common.{◌≡◌, ◌∙◌, ℕ, List, inl, inr, sym, subst}
 use Rattle.dxc_disk.specs.Disks.{DiskState}
 use Rattle.dxc_outside.specs.Links.{LinkState}

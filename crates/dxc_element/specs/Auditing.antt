@@ -1,5 +1,5 @@
 -- What reads an element and writes it to a terminal is lent.
-use Rattle.std.specs.Prelude.{◌≡◌, List}
+use Rattle.std.specs.Prelude.{◌≡◌}
 use Rattle.dxc_disk.specs.Disks.{DiskState}
 use Rattle.dxc_outside.specs.Links.{LinkState}
 use Rattle.dxc_args.specs.declared.status.Status.{Status}

@@ -1,3 +1,4 @@
+pub mod Lenders
 pub mod Statuses
 pub mod Openings
 pub mod Peers

@@ -1,5 +1,5 @@
 -- What the words name is opened, or why it isn't.
-use Rattle.std.specs.Prelude.{◌≡◌, ◌≢◌, ◌⊎◌, ◌≤◌, ◌<◌, ◌+◌, ℕ, List, [], ◌∷◌, ◌++◌, length, codes, Option, Some, Err}
+use Rattle.std.specs.Prelude.{◌≡◌, ◌≢◌, ◌⊎◌, ◌≤◌, ◌<◌, ◌+◌, ℕ, List, [], ◌∷◌, ◌++◌, length, codes, Option, Some, Result, Err, MatchResult}
 use Rattle.std.specs.Arc.{arc_value}
 use Rattle.dxc_causes.specs.Causes.{Rose, last}
 use Rattle.dxc_disk.specs.Disks.{DiskState, IsSound}
@@ -24,6 +24,7 @@ use Rattle.dxc_element.specs.declared.opening.Controller.{Controller}
 use Rattle.dxc_element.specs.declared.opening.Element.{Element}
 use Rattle.dxc_args.specs.declared.status.Status.{Status}
 use Rattle.dxc_args.specs.declared.status.Status.TheVariants.{Done, BadWords, BadShelf, BadJournal, Disk, CannotOpen, NoThread, NoMemory, Link, Stopped, Spent, BadMessage, NotEmpty}
+use Rattle.dxc_element.specs.Lenders.{Lender}
 use Rattle.dxc_element.specs.Statuses.{status_of_fault, status_of_users_fault}
 
 -- the names of a shelf file and a journal
@@ -33,6 +34,14 @@ pub record Named : Type 0 where
 
 abbrev pub named : List ℕ → List ℕ → Named
 named shelf journal = record { shelf = shelf; journal = journal }
+
+-- by which names an element is opened, and for how many workers
+pub record Wanted : Type 0 where
+  pub names : Named
+  pub workers : ℕ
+
+abbrev pub wanted : Named → ℕ → Wanted
+wanted names workers = record { names = names; workers = workers }
 
 -- the name of the users' journal beside a journal of this name
 abbrev pub users_name : List ℕ → List ℕ
@@ -120,7 +129,7 @@ module _ {D : Type 0} (disk_told : Type 0) (state : D → DiskState) where
     pub opening : IsOpening disk_told (state disk).reads_as s fabric o
     pub taken : IsTaken (state disk) o.faults o.room o.margin
 
-  -- It started on the shelf, with so many workers, on a fabric of its own; the state stands for no entry behind what the disk's journal came to.
+  -- It started on the shelf, with so many workers, on a fabric of its own; the state stands for no entry after what the disk's journal came to.
   pub record IsStarted (disk : D) (s : Contents) (workers : ℕ) (x : Controller D) : Type 0 where
     pub shelf : arc_value x.shelf ≡ s
     pub size : (arc_value x.fabric).size ≡ record { shape = s.shape; workers = workers }
@@ -151,7 +160,7 @@ pub record FoundUsers (opener_told : Type 0) {D : Type 0} (names : Named) (befor
   pub handed : opener_told → before.journal_at (users_name names.journal) ≡ Some disk
 
 module _ {D : Type 0} (disk_told : Type 0) (state : D → DiskState) where
-  -- the users were taken up from what this disk's journal came to, and their state stands for no entry behind it
+  -- the users were taken up from what this disk's journal came to, and their state stands for no entry after it
   pub record AreUsersStarted (disk : D) (s : Contents) (x : UserState D) : Type 0 where
     pub opening : IsUsersOpening disk_told (state disk).reads_as s (users_opening state x)
     pub begins : UsersBegin disk_told state x
@@ -177,7 +186,7 @@ pub record OpenedOn (D : Type 0) : Type 0 where
 abbrev pub opened_on : {D : Type 0} → D → D → Contents → Opening → OpenedOn D
 opened_on disk users_disk s o = record { disk = disk; users_disk = users_disk; shelf = s; opening = o }
 
--- A controller with one worker was let go as it was opened, with its users: on their disks nothing was done behind the opening.
+-- A controller with one worker was let go as it was opened, with its users: on their disks nothing was done after the opening.
 pub record WasLetGo {D : Type 0} (disk_told : Type 0) (state : D → DiskState) (gone : AnyValue → Type 0) (on : OpenedOn D) : Type 0 where
   pub element : Element D D
   pub let_go : gone (any_value element)
@@ -230,3 +239,12 @@ module _ (opener_told : Type 0) {D : Type 0} (disk_told : Type 0) (state : D →
   Opens names before after untouched done status =
       (NotOpened names before after status × untouched)
       ⊎ ((f : Found opener_told names before) × (o : Opening) × HasOpening disk_told state f.disk f.shelf o × (u : Began opener_told disk_told state names before f.shelf) × done f o u)
+
+module _ {O : Type 0} (w : Lender O) where
+  -- the controller that is wanted, or why there is none
+  abbrev pub OpensController : Wanted → (before after : Sources w.Disk) → Result (Controller w.Disk) Status → Type 0
+  OpensController x before after result = MatchResult result (HasController w.opener.told w.disk.told w.disk.state x.names x.workers before) (NoController w.opener.told w.disk.told w.disk.state w.gone x.names before after)
+
+  -- with its users
+  abbrev pub OpensElement : Wanted → (before after : Sources w.Disk) → Result (Element w.Disk w.Disk) Status → Type 0
+  OpensElement x before after result = MatchResult result (IsOpened w.opener.told w.disk.told w.disk.state x.names x.workers before) (NotOpened w.opener.told w.disk.told w.disk.state w.gone x.names before after)

@@ -4,10 +4,7 @@ use denote.Triple.Both.{Both}
 use Rattle.std.specs.Prelude.{◌≡◌, ◌⊎◌, ◌≤◌, ℕ, List, [], ◌∷◌, Option, Some, IsSomeAnd, Result, MatchResult}
 use Rattle.dxc_causes.specs.Causes.{Rose}
 use Rattle.dxc_disk.specs.Disks.{DiskState, Looks}
-use Rattle.dxc_disk.specs.declared.disk.Disk.{Ghosts as DiskOf}
 use Rattle.dxc_outside.specs.Asked.{Asking, shelf_named, journal_named, peer_named}
-use Rattle.dxc_outside.specs.declared.link.Link.{Ghosts as LinkOf}
-use Rattle.dxc_outside.specs.declared.opener.Opener.{Ghosts as OpenerOf}
 use Rattle.dxc_outside.specs.Links.{LinkState}
 use Rattle.dxc_leaving.specs.Values.{AnyValue, any_value}
 use Rattle.shelf_file.specs.Contents.{Contents}
@@ -21,7 +18,8 @@ use Rattle.xc_core.specs.States.{Opening}
 use Rattle.dxc_element.specs.declared.opening.Controller.{Controller}
 use Rattle.dxc_element.specs.declared.opening.Element.{Element}
 use Rattle.dxc_args.specs.declared.status.Status.{Status}
-use Rattle.dxc_element.specs.Openings.{AreUsersNotStarted, AreUsersStarted, HasOpening, HasShelf, IsKept, IsStarted, IsTaken, IsUnopened, LeftStarted, Named, NoShelf, NotStarted, Sources, users_name}
+use Rattle.dxc_element.specs.Lenders.{Lender}
+use Rattle.dxc_element.specs.Openings.{AreUsersNotStarted, AreUsersStarted, HasOpening, HasShelf, IsKept, IsStarted, IsTaken, IsUnopened, LeftStarted, Named, NoShelf, NotStarted, Sources, Wanted, users_name}
 
 -- where a standby's copy of the users' journal is called, beside the peer: it has the peer's name as the users' journal has the journal's
 abbrev pub users_peer : List ℕ → List ℕ
@@ -50,7 +48,7 @@ abbrev pub mirror_state : {D K : Type 0} → (D → DiskState) → MirrorDisk D 
 mirror_state state m = state m.disk.disk
 
 module _ {D K : Type 0} (disk_told link_told : Type 0) (state : D → DiskState) (link : K → LinkState) where
-  -- The disk is mirrored, behind a joining over some link. That changed nothing on it.
+  -- The disk is mirrored, after a joining over some link. That changed nothing on it.
   pub record IsMirror (disk : D) (m : MirrorDisk D K) : Type 0 where
     pub looks : disk_told → Looks (state disk) (state m.disk.disk)
     pub later : (state disk).faults ≤ (state m.disk.disk).faults
@@ -121,26 +119,27 @@ module _ {D K : Type 0} (disk_told link_told : Type 0) (state : D → DiskState)
           (NotMirrored names before after status × untouched)
           ⊎ ((f : FoundMirror names before) × (o : Opening) × HasOpening disk_told (mirror_state state) f.mirror f.shelf o × (u : BeganMirrored names before f.shelf) × done f o u)
 
--- what an opener tells of journals and peers, and what was let go
-pub record Peering (O : Type 0) : Type 1 where
-  pub Disk : Type 0
-  pub Lines : Type 0
-  pub Listener : Type 0
-  pub Clock : Type 0
-  pub Gate : Type 0
-  pub Peer : Type 0
-  pub Link : Type 0
-  pub opener : OpenerOf O Disk Lines Listener Clock Gate Peer Link
-  pub disk : DiskOf Disk
-  pub peer : LinkOf Peer
-  pub gone : AnyValue → Type 0
-
-abbrev pub peering : {O D N L C G P K : Type 0} → OpenerOf O D N L C G P K → DiskOf D → LinkOf P → (AnyValue → Type 0) → Peering O
-peering {O} {D} {N} {L} {C} {G} {P} {K} o d p gone = record { Disk = D; Lines = N; Listener = L; Clock = C; Gate = G; Peer = P; Link = K; opener = o; disk = d; peer = p; gone = gone }
-
-module _ {O : Type 0} (w : Peering O) where
+module _ {O : Type 0} (w : Lender O) where
   abbrev pub Mirrored : Type 0
   Mirrored = MirrorDisk w.Disk w.Peer
+
+  -- the mirror of the disk of this name, by the opener across the call, or what was handed out for it was let go
+  abbrev pub TookMirror : Both (MutBor O) (MutBor O) → List ℕ → Result Mirrored Status → Type 0
+  TookMirror opener journal result =
+      let old = opener.entry.now in
+      let new = opener.exit.now in
+      MatchResult result (IsMirrorOf w.disk.told w.peer.told w.disk.state w.peer.state w.opener.told (w.opener.journal_at old) journal)
+      (λ status. IsUnopened (w.opener.state old).faults (w.opener.state new).faults status × IsUnused w.opener.told w.gone journal (w.opener.journal_at old) (w.opener.journal_at new))
+
+  -- the controller that is wanted, on a mirror of its journal, or why there is none
+  abbrev pub MirrorsController : Wanted → (before after : Sources w.Disk) → Result (Controller Mirrored) Status → Type 0
+  MirrorsController x before after result = MatchResult result (HasMirrored w.disk.told w.peer.told w.disk.state w.peer.state w.opener.told x.names x.workers before)
+      (NoMirrored w.disk.told w.peer.told w.disk.state w.peer.state w.opener.told w.gone x.names before after)
+
+  -- with its users, on a mirror of theirs
+  abbrev pub MirrorsElement : Wanted → (before after : Sources w.Disk) → Result (Element Mirrored Mirrored) Status → Type 0
+  MirrorsElement x before after result = MatchResult result (IsOpenedOn w.disk.told w.peer.told w.disk.state w.peer.state w.opener.told x.names x.workers before)
+      (NotMirrored w.disk.told w.peer.told w.disk.state w.peer.state w.opener.told w.gone x.names before after)
 
   -- the mirror of the disk that the opener would have handed out for the users' journal beside one of this name
   pub record MirrorsUsers (at : List ℕ → Option w.Disk) (journal : List ℕ) : Type 0 where

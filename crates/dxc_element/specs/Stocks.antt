@@ -33,7 +33,7 @@ pub record IsHaltedHome {D : Type 0} (x : State D) : Type 0 where
 abbrev pub IsAway : {D : Type 0} → State D → Type 0
 IsAway x = ((e : Errand) × (x.home ≡ Out e)) ⊎ IsHaltedHome x
 
--- behind a history from the opening on: the connections of the plain table after it, and the switches of its changes, each by its planned work
+-- after a history from the opening on: the connections of the plain table after it, and the switches of its changes, each by its planned work
 pub record IsStockAfter (o : Opening) (h : List Entry) (s : Stock) : Type 0 where
   pub legal : IsLegal (rules_of o) h
   pub connections : s.connections ≡ length (rows (table_after o.first.fold.table h) All)
@@ -45,7 +45,7 @@ pub record IsStockAfter (o : Opening) (h : List Entry) (s : Stock) : Type 0 wher
 abbrev pub IsCounted : Opening → List Entry → DiskState → Type 0
 IsCounted o h d = min (o.faults + faults_in h) last ≤ d.faults
 
--- Behind a history that a place has seen stand entries of the others of so many places. The state comes to this, and this is its journal's disk.
+-- After a history that a place has seen stand entries of the others of so many places. The state comes to this, and this is its journal's disk.
 pub record IsLeft {D : Type 0} (state : D → DiskState) (own places : ℕ) (o : Opening) (h : List Entry) (s : Stock × D) : Type 0 where
   pub later : List Entry
   pub others : Each (λ e. e.place ≢ own) later
@@ -53,11 +53,19 @@ pub record IsLeft {D : Type 0} (state : D → DiskState) (own places : ℕ) (o :
   pub after : IsStockAfter o (h ++ later) s.0
   pub counted : IsCounted o (h ++ later) (state s.1)
 
--- behind a history that a place has seen stand entries of the others of so many places, and a state that stands for both has its Provisioner away
-pub record IsHeldUp {D : Type 0} (told : Type 0) (state : D → DiskState) (own places : ℕ) (o : Opening) (h : List Entry) : Type 0 where
+-- a place by its number, and how many there are
+pub record Among : Type 0 where
+  pub own : ℕ
+  pub places : ℕ
+
+abbrev pub among : (own places : ℕ) → Among
+among own places = record { own = own; places = places }
+
+-- after a history that a place has seen stand entries of the others of so many places, and a state that stands for both has its Provisioner away
+pub record IsHeldUp {D : Type 0} (told : Type 0) (state : D → DiskState) (place : Among) (o : Opening) (h : List Entry) : Type 0 where
   pub later : List Entry
-  pub others : Each (λ e. e.place ≢ own) later
-  pub numbers : Each (λ e. e.place < places) later
+  pub others : Each (λ e. e.place ≢ place.own) later
+  pub numbers : Each (λ e. e.place < place.places) later
   pub found : State D
   pub stands_for : StandsFor told state o found (h ++ later)
   pub away : IsAway found

@@ -1,5 +1,5 @@
 //! What a journal came to, for whoever audits it.
-ghost use Rattle.std.specs.Prelude.{◌≡◌, ◌≢◌, ◌≤◌, flat_map, length, vec_capacity};
+ghost use Rattle.std.specs.Prelude.{◌≡◌, ◌≢◌, ◌≤◌, flat_map, vec_capacity};
 ghost use Rattle.std.specs.List.{AllByRecursion};
 ghost use Rattle.dxc_num.specs.Dimensions.{ports};
 ghost use Rattle.dxc_outside.specs.Asked.{AskedFor};
@@ -19,7 +19,7 @@ use arrayvec::ArrayVec;
 use dxc_args::Status;
 use dxc_disk::Disk;
 use dxc_leaving::LetGo;
-use dxc_model::{Conn, Selection, Table};
+use dxc_model::{Conn, Selection};
 use dxc_num::Shape;
 use dxc_outside::{Gate, Link, Opener, Sent, write_all};
 use std::alloc::Global;
@@ -71,8 +71,9 @@ fn check<K: Link, D: Disk + Drop>(state: &State<D>, listed: &mut Vec<Conn>, link
     ensures hung_up { K.hung_up link.new ≡ K.hung_up link.old }
 {
     let mut text = ArrayVec::new();
-    list(&state.table, Selection::All, listed);
-    match write_rows(link, &mut text, state.table.shape(), listed) {
+    let shape = state.table.shape();
+    state.table.rows(Selection::All, listed);
+    match write_rows(link, &mut text, shape, listed) {
         Sent::Whole => {}
         Sent::Cut => return Sent::Cut,
     }
@@ -81,17 +82,6 @@ fn check<K: Link, D: Disk + Drop>(state: &State<D>, listed: &mut Vec<Conn>, link
         Home::Out(_) => unreachable!(),
     };
     write_count(link, &mut text, records)
-}
-
-// Clears `listed`, and gives the selected connections of the table.
-fn list(table: &Table, selection: Selection, listed: &mut Vec<Conn>)
-    requires room { ports table.now.shape ≤ vec_capacity listed.old }
-    ensures rows { listed.new.items ≡ rows table.now selection }
-    ensures shape { AllByRecursion (IsOfShape table.now.shape) listed.new.items }
-{
-    // Its clause tells that the table's ports are of the shape.
-    let _shape = table.shape();
-    table.rows(selection, listed);
 }
 
 // Clears `text`, and writes the row on a line of its own.

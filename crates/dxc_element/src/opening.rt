@@ -2,7 +2,8 @@
 ghost use Rattle.std.specs.Prelude.{◌≡◌, ◌≢◌, ◌⊎◌, ◌≤◌, ◌∷◌, [], Some, IfOk, IsOk, ◌<◌, ℕ, List, MatchResult};
 ghost use Rattle.dxc_causes.specs.Causes.{Rose};
 ghost use Rattle.dxc_outside.specs.Asked.{AskedFor, shelf_named, journal_named};
-ghost use Rattle.dxc_element.specs.Openings.{AreUsersStarted, FoundUsers, HasController, HasShelf, IsKept, IsOpened, IsStarted, IsUnopened, LetGoOf, NoController, NoShelf, NotOpened, StartFails, UsersStartFails, files_asked, named, sources, users_name as name_of_users};
+ghost use Rattle.dxc_element.specs.Lenders.{lender};
+ghost use Rattle.dxc_element.specs.Openings.{AreUsersStarted, HasShelf, IsKept, IsStarted, IsUnopened, LetGoOf, NoShelf, OpensController, OpensElement, StartFails, UsersStartFails, files_asked, named, sources, users_name as name_of_users, wanted};
 ghost use Rattle.dxc_element.specs.Statuses.{status_of_fault, status_of_users_fault};
 
 use dxc_args::{JournalBad, Status};
@@ -52,13 +53,10 @@ pub fn open<O: Opener + LetGo, G: Gate>(
     gate: &mut G,
 ) -> Result<Element<O::Journal, O::Journal>, Status>
     requires workers { (0 < workers) × (workers ≤ 8) }
-    ensures opened { MatchResult result (IsOpened O.told O.Journal.told O.Journal.state
-        (named names.entry.shelf.now names.entry.journal.now) workers
-        (sources (O.state opener.old) (O.journal_at opener.old) (G.stops gate.old)))
-        (NotOpened O.told O.Journal.told O.Journal.state O.gone
-        (named names.entry.shelf.now names.entry.journal.now)
+    ensures opened { OpensElement (lender O.Opener O.Journal.Disk O.Peer.Link O.gone)
+        (wanted (named names.entry.shelf.now names.entry.journal.now) workers)
         (sources (O.state opener.old) (O.journal_at opener.old) (G.stops gate.old))
-        (sources (O.state opener.new) (O.journal_at opener.new) (G.stops gate.new))) }
+        (sources (O.state opener.new) (O.journal_at opener.new) (G.stops gate.new)) result }
     ensures unstopped { MatchResult result (λ x. G.stops gate.new ≡ G.stops gate.old)
         (λ s. G.stops gate.old ≤ G.stops gate.new) }
     ensures later { (O.state opener.old).faults ≤ (O.state opener.new).faults }
@@ -84,13 +82,10 @@ fn open_controller<O: Opener + LetGo, G: Gate>(
     gate: &mut G,
 ) -> Result<Controller<O::Journal>, Status>
     requires workers { (0 < workers) × (workers ≤ 8) }
-    ensures opened { MatchResult result (HasController O.told O.Journal.told O.Journal.state
-        (named names.entry.shelf.now names.entry.journal.now) workers
-        (sources (O.state opener.old) (O.journal_at opener.old) (G.stops gate.old)))
-        (NoController O.told O.Journal.told O.Journal.state O.gone
-        (named names.entry.shelf.now names.entry.journal.now)
+    ensures opened { OpensController (lender O.Opener O.Journal.Disk O.Peer.Link O.gone)
+        (wanted (named names.entry.shelf.now names.entry.journal.now) workers)
         (sources (O.state opener.old) (O.journal_at opener.old) (G.stops gate.old))
-        (sources (O.state opener.new) (O.journal_at opener.new) (G.stops gate.new))) }
+        (sources (O.state opener.new) (O.journal_at opener.new) (G.stops gate.new)) result }
     ensures others { O.told → (n : List ℕ) → n ≢ names.entry.journal.now
         → O.journal_at opener.new n ≡ O.journal_at opener.old n }
     ensures unstopped { MatchResult result (λ x. G.stops gate.new ≡ G.stops gate.old)

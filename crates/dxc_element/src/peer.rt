@@ -1,9 +1,9 @@
 //! A controller whose journals a standby has copies of.
-ghost use Rattle.std.specs.Prelude.{◌≡◌, ◌≢◌, ◌⊎◌, ◌≤◌, ◌<◌, ◌∷◌, [], ℕ, IsOk, List, MatchResult};
-ghost use Rattle.dxc_causes.specs.Causes.{Rose};
+ghost use Rattle.std.specs.Prelude.{◌≡◌, ◌≢◌, ◌≤◌, ◌<◌, ◌∷◌, [], ℕ, IsOk, List, MatchResult};
 ghost use Rattle.dxc_outside.specs.Asked.{AskedFor, shelf_named, journal_named, peer_named};
-ghost use Rattle.dxc_element.specs.Openings.{IsUnopened, named, sources, users_name as name_of_users};
-ghost use Rattle.dxc_element.specs.Peers.{HasMirrored, IsMirrorOf, IsOpenedOn, IsUnused, NoMirrored, NotMirrored, TookUsers, mirror_asked, peering, users_peer};
+ghost use Rattle.dxc_element.specs.Lenders.{lender};
+ghost use Rattle.dxc_element.specs.Openings.{named, sources, users_name as name_of_users, wanted};
+ghost use Rattle.dxc_element.specs.Peers.{MirrorsController, MirrorsElement, TookMirror, TookUsers, mirror_asked, users_peer};
 
 use crate::opening::{Controller, Element, Names, shelf_of_file, start, start_users, users_name};
 use dxc_args::Status;
@@ -29,13 +29,10 @@ pub fn open_mirrored<O: Opener + LetGo, G: Gate>(
     gate: &mut G,
 ) -> Result<Element<Mirror<O>, Mirror<O>>, Status>
     requires workers { (0 < workers) × (workers ≤ 8) }
-    ensures opened { MatchResult result (IsOpenedOn O.Journal.told O.Peer.told O.Journal.state
-        O.Peer.state O.told (named names.entry.shelf.now names.entry.journal.now) workers
-        (sources (O.state opener.old) (O.journal_at opener.old) (G.stops gate.old)))
-        (NotMirrored O.Journal.told O.Peer.told O.Journal.state O.Peer.state O.told O.gone
-        (named names.entry.shelf.now names.entry.journal.now)
+    ensures opened { MirrorsElement (lender O.Opener O.Journal.Disk O.Peer.Link O.gone)
+        (wanted (named names.entry.shelf.now names.entry.journal.now) workers)
         (sources (O.state opener.old) (O.journal_at opener.old) (G.stops gate.old))
-        (sources (O.state opener.new) (O.journal_at opener.new) (G.stops gate.new))) }
+        (sources (O.state opener.new) (O.journal_at opener.new) (G.stops gate.new)) result }
     ensures unstopped { MatchResult result (λ x. G.stops gate.new ≡ G.stops gate.old)
         (λ s. G.stops gate.old ≤ G.stops gate.new) }
     ensures later { (O.state opener.old).faults ≤ (O.state opener.new).faults }
@@ -63,13 +60,10 @@ fn mirrored_controller<O: Opener + LetGo, G: Gate>(
     gate: &mut G,
 ) -> Result<Controller<Mirror<O>>, Status>
     requires workers { (0 < workers) × (workers ≤ 8) }
-    ensures opened { MatchResult result (HasMirrored O.Journal.told O.Peer.told O.Journal.state
-        O.Peer.state O.told (named names.entry.shelf.now names.entry.journal.now) workers
-        (sources (O.state opener.old) (O.journal_at opener.old) (G.stops gate.old)))
-        (NoMirrored O.Journal.told O.Peer.told O.Journal.state O.Peer.state O.told O.gone
-        (named names.entry.shelf.now names.entry.journal.now)
+    ensures opened { MirrorsController (lender O.Opener O.Journal.Disk O.Peer.Link O.gone)
+        (wanted (named names.entry.shelf.now names.entry.journal.now) workers)
         (sources (O.state opener.old) (O.journal_at opener.old) (G.stops gate.old))
-        (sources (O.state opener.new) (O.journal_at opener.new) (G.stops gate.new))) }
+        (sources (O.state opener.new) (O.journal_at opener.new) (G.stops gate.new)) result }
     ensures others { O.told → (n : List ℕ) → n ≢ names.entry.journal.now
         → O.journal_at opener.new n ≡ O.journal_at opener.old n }
     ensures unstopped { MatchResult result (λ x. G.stops gate.new ≡ G.stops gate.old)
@@ -91,7 +85,7 @@ fn mirrored_users<O: Opener + LetGo>(
     peer: &str,
     shelf: &Shelf,
 ) -> Result<UserState<Mirror<O>>, Status>
-    ensures users { TookUsers (peering O.Opener O.Journal.Disk O.Peer.Link O.gone) opener
+    ensures users { TookUsers (lender O.Opener O.Journal.Disk O.Peer.Link O.gone) opener
         journal.now shelf.now result }
     ensures later { (O.state opener.old).faults ≤ (O.state opener.new).faults }
     ensures asked { AskedFor (O.asked opener.old opener.new) (journal_named
@@ -114,10 +108,8 @@ fn mirror_of<O: Opener + LetGo>(
     journal: &str,
     peer: &str,
 ) -> Result<Mirror<O>, Status>
-    ensures mirror { MatchResult result (IsMirrorOf O.Journal.told O.Peer.told O.Journal.state
-        O.Peer.state O.told (O.journal_at opener.old) journal.now)
-        (λ s. IsUnopened (O.state opener.old).faults (O.state opener.new).faults s × IsUnused O.told
-        O.gone journal.now (O.journal_at opener.old) (O.journal_at opener.new)) }
+    ensures mirror { TookMirror (lender O.Opener O.Journal.Disk O.Peer.Link O.gone) opener
+        journal.now result }
     ensures others { O.told → (n : List ℕ) → n ≢ journal.now
         → O.journal_at opener.new n ≡ O.journal_at opener.old n }
     ensures later { (O.state opener.old).faults ≤ (O.state opener.new).faults }

@@ -5,7 +5,7 @@ ghost use Rattle.dxc_model.specs.declared.entry.Entry.{Entry};
 ghost use Rattle.xc_core.specs.Seeing.{Saw};
 ghost use Rattle.xc_core.specs.States.{opening_of};
 ghost use Rattle.xc_core.specs.Turns.{HasPass};
-ghost use Rattle.dxc_element.specs.Stocks.{IsAway, IsHeldUp, IsLeft, IsStock};
+ghost use Rattle.dxc_element.specs.Stocks.{IsAway, IsHeldUp, IsLeft, IsStock, among};
 
 use dxc_disk::Disk;
 use dxc_model::{Conn, Selection};
@@ -63,7 +63,7 @@ pub fn stock_of<D: Disk + Drop, R: Wait>(
         → IfSome result
         (IsLeft D.state pass.old.number turns.now.passes (opening_of D.state turns.now.first) h) }
     ensures none { (h : List Entry) → Saw (opening_of D.state turns.now.first) pass.old.seen h
-        → IfNone result (IsHeldUp D.told D.state pass.old.number turns.now.passes
+        → IfNone result (IsHeldUp D.told D.state (among pass.old.number turns.now.passes)
         (opening_of D.state turns.now.first) h) }
 {
     let mut turn = turns.enter(pass, rt);

@@ -4,13 +4,10 @@ use crate::peer_watch::CopyOf;
 use crate::utc::moment_of;
 use arrayvec::ArrayVec;
 use dxc_model::Class;
-use dxc_notes::{SessionAt, Standby, Standing, Word};
+use dxc_notes::{PLACES, SessionAt, Standby, Standing, Word};
 use dxc_outside::Moment;
 use std::alloc::{AllocError, Global};
 use std::sync::atomic::{AtomicU64, Ordering};
-
-/// How many places callers come in at.
-const PLACES: usize = 16;
 
 /// Of the standby's number: one is named; ..
 const NAMED: u64 = 1;

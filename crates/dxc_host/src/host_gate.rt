@@ -1,5 +1,5 @@
 use crate::changes::Changes;
-use dxc_outside::{Gate, GatePlace, Pass1};
+use dxc_outside::{Gate, GatePlace, Stopped};
 
 /// The gate of the program, which never stops. It marks each change that it lets to a journal, for the links of its sessions.
 #[derive(Drop)]
@@ -14,8 +14,7 @@ impl HostGate {
 }
 
 impl Gate for HostGate {
-    ghost use Rattle.std.specs.Prelude.{◌≡◌};
-    ghost use Rattle.dxc_outside.specs.declared.gate.Pass1.{Pass1};
+    ghost use Rattle.std.specs.Prelude.{◌≡◌, Ok};
 
     ghost stops = { λ _. 0 };
 
@@ -25,12 +24,12 @@ impl Gate for HostGate {
 
     ghost asked_on = { λ _ _ _ _ _ _ _. tt };
 
-    fn pass(&mut self, place: GatePlace) -> Pass1
-        ensures { result ≡ Pass1.Go }
+    fn pass(&mut self, place: GatePlace) -> Result<(), Stopped>
+        ensures { result ≡ Ok tt }
     {
         if let (GatePlace::Journal, Some(changes)) = (place, &self.changes) {
             changes.mark();
         }
-        Pass1::Go
+        Ok(())
     }
 }

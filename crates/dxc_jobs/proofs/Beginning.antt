@@ -1,4 +1,4 @@
--- Jobs that were begun, one behind the other, and what they left.
+-- Jobs that were begun, one after the other, and what they left.
 use Rattle.std.specs.Prelude.{◌≡◌, ◌+◌, ◌≤◌, List, [], ◌∷◌, ◌++◌, length}
 use Rattle.std.proofs.Common.{◌∙◌, ap, arith, length-append, refl, subst, sym}
 use Rattle.std.specs.declared.thread.PromisedHandle.{PromisedHandle}

@@ -22,11 +22,11 @@ module _ {X : Type 0} (faults later : ℕ) (more : faults ≤ later) where
 pub not_opened : {X A : Type 0} (faults later : ℕ) → HasCause faults later A → A → IsMade {X = X} faults later (Err CannotOpen)
 not_opened faults later h failed = record { counted = h.later; cause = λ is. h.cause failed; only = λ s is not. absurd (not (sym (err_same CannotOpen s is))) }
 
--- what changed no count came behind
+-- what changed no count came after
 pub kept : {X : Type 0} (faults now later : ℕ) (made : Result X Status) → later ≡ now → IsMade faults now made → IsMade faults later made
 kept faults now later made same is = subst (λ (n : ℕ). IsMade faults n made) (sym same) is
 
--- one of several isn't there, behind others
+-- one of several isn't there, after others
 pub behind : {X Y : Type 0} (faults mid later : ℕ) (made : Result X Status) (s : Status) → faults ≤ mid → IsMade mid later made → made ≡ Err s → IsMade {X = Y} faults later (Err s)
 behind faults mid later made s more is was = record {
   counted = let up = is.counted in omega (arith, more, up);

@@ -1,4 +1,4 @@
--- Jobs of frame workers, one behind the other.
+-- Jobs of frame workers, one after the other.
 use Rattle.std.proofs.Common.{◌≡◌, ◌+◌, ℕ, arith, false, if◌then◌else◌, List, [], ◌∷◌, ◌++◌, length, Result, Ok, Err, is_ok, is_err, subst}
 use Rattle.std.specs.Prelude.{slice_index_or, ◌<◌}
 use Rattle.fabric_core.specs.State.{new_worker}
@@ -8,7 +8,7 @@ use Rattle.fabric_words.specs.Seats.{FabricId}
 use Rattle.dxc_jobs.specs.declared.frames.FrameJob.{FrameJob}
 use Rattle.dxc_jobs.specs.Handed.{AreJobsOf, IsJobOf}
 
--- it was put behind the others
+-- it was put after the others
 pub pushed : {A B X : Type 0} (r : Result A B) (xs new : List X) (x : X) → is_err r ≡ false → new ≡ (if is_ok r then xs ++ x ∷ [] else xs) → new ≡ xs ++ x ∷ []
 pushed (Ok v) xs new x went is = is
 pushed (Err e) xs new x went is = cc

@@ -44,7 +44,7 @@ next_failed n jobs first old new s is more so_far start =
       failed = λ _. record { fewer = omega (arith, kept, high, more); one = subst (λ (k : ℕ). Counted k new.faults 1) same fault.0; last = fault.1 };
     }
 
--- jobs behind those that were started
+-- jobs after those that were started
 pub more_starts : (n m : ℕ) (first old new : SpawnerState) (s : Started) → AreStarts n first old Running → AreStarts m old new s → AreStarts (n + m) first new s
 more_starts n m first old new s front behind =
     let now = front.running refl in
@@ -56,7 +56,7 @@ more_starts n m first old new s front behind =
       failed = λ is. let f = behind.failed is in record { fewer = let few = f.fewer in omega (arith, few, high); one = subst (λ (k : ℕ). Counted k new.faults 1) now.1 f.one; last = f.last };
     }
 
--- and none behind one whose start failed
+-- and none after one whose start failed
 pub no_further : (n m : ℕ) (first new : SpawnerState) → AreStarts n first new Failed → AreStarts (n + m) first new Failed
 no_further n m first new front = record {
   running = λ bad. cc;
@@ -81,7 +81,7 @@ waited_for n first old new s starts wait =
       };
     }
 
--- one job behind others
+-- one job after others
 pub any_more : {J : Type 0} (jobs : List J) (job : J) → any_jobs (jobs ++ job ∷ []) ≡ any_jobs jobs ++ any_job job ∷ []
 any_more [] job = refl
 any_more (j ∷ js) job = ap (λ (l : List AnyJob). any_job j ∷ l) (any_more js job)

@@ -30,7 +30,7 @@ module _ {J L T : Type 0} (ran : J → L → Type 0) where
   AreBegun (job ∷ jobs) [] = ⊥
   AreBegun (job ∷ jobs) (b ∷ bs) = IsBegun job b × AreBegun jobs bs
 
-  -- it was put behind those that were begun
+  -- it was put after those that were begun
   pub record NextBegun (job : J) (old new : List (Begun L T (PromisedHandle L (RanOf J)))) : Type 0 where
     pub one : Begun L T (PromisedHandle L (RanOf J))
     pub is : new ≡ old ++ one ∷ []

@@ -14,7 +14,7 @@ use Rattle.dxc_jobs.specs.declared.frames_left.FramesLeft.{FramesLeft}
 
 module _ {N G : Type 0} (n : LinesOf N) (g : GateOf G) where
   -- Frame after frame of the job's lines was carried by its worker, until one of the five ends came. The seat that is left is a seat of the job's fabric, and
-  -- what the worker noted is what the frames were carried by; nothing was written behind the last of them.
+  -- what the worker noted is what the frames were carried by; nothing was written after the last of them.
   pub record RanFrames (job : FrameJob N G) (done : FramesDone N G) (left : FramesLeft) : Type 0 where
     -- how many were written
     pub frames : ℕ

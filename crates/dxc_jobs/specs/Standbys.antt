@@ -186,6 +186,10 @@ MetAt w disk listener met = Meets w.disk.told w.listener.told w.link.told w.disk
 abbrev pub ServedAt : {D K : Type 0} (disk : DiskOf D) (link : LinkOf K) → Across K → Across D → Option StandbyEnd → Type 0
 ServedAt disk link k d end = ServesOrPasses disk.told link.told disk.state link.state link.begun link.hung_up k.entry.now k.exit.now d.entry.now d.exit.now end
 
+-- what a standby's run on a disk came to, across a call
+abbrev pub RanOver : {D K : Type 0} (disk : DiskOf D) (link : LinkOf K) → Across K → Across D → StandbyEnd → Type 0
+RanOver disk link k d end = RanStandby disk.told link.told (link.state k.entry.now) (link.state k.exit.now) (disk.state d.entry.now) (disk.state d.exit.now) end
+
 -- by an opener, across the call, with the names of the journal and of the address
 abbrev pub StoodBy : {O : Type 0} (w : Office O) → (gone : AnyValue → Type 0) → Across O → (names : List ℕ × List ℕ) → Status → Type 0
 StoodBy w gone opener names status = StandsBy w.opener.told w.disk.told w.listener.told w.link.told w.disk.state w.listener.state w.link.state w.link.begun w.link.hung_up (w.opener.journal_at opener.entry.now) (w.opener.listener_at opener.entry.now) (w.opener.state opener.entry.now).faults (w.opener.state opener.exit.now).faults names.0 names.1 gone (w.opener.asked opener.entry.now opener.exit.now) status

@@ -1,7 +1,7 @@
 use fabric_words::WorkerSeat;
 use frame_worker::LinesEnd;
 
-/// What the job of a worker lets go: its lines and its gate, as they stand behind its last frame.
+/// What the job of a worker lets go: its lines and its gate, as they stand after its last frame.
 #[derive(Drop)]
 pub struct FramesDone<N, G> {
     pub lines: N,

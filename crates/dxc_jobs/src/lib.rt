@@ -15,7 +15,7 @@ mod workers;
 pub use begun::RanAll;
 pub use frames::FrameJob;
 pub use frames_left::{FramesDone, FramesLeft};
-pub use standby::run_standby;
+pub use standby::{ACCEPT_FAILURES, run_standby};
 pub use stood::Stood;
 pub use task::Task;
 pub use threads::run_all;

@@ -3,7 +3,7 @@ ghost use Rattle.std.specs.Prelude.{◌≡◌, ◌∷◌, []};
 ghost use Rattle.dxc_outside.specs.Asked.{AskedFor, copy_named, listener_named};
 ghost use Rattle.dxc_jobs.specs.Missing.{IsOfNoOpening};
 ghost use Rattle.dxc_jobs.specs.Offices.{doorway, office};
-ghost use Rattle.dxc_jobs.specs.Standbys.{IsFirst, MetAt, MetBy, RanStandby, ServedAt, StoodBy, status_of_standby, status_of_stood, stood_asked};
+ghost use Rattle.dxc_jobs.specs.Standbys.{IsFirst, MetAt, MetBy, RanOver, ServedAt, StoodBy, status_of_standby, status_of_stood, stood_asked};
 ghost use Rattle.standby_link.specs.Serves.{IsPrompt};
 
 use crate::stood::Stood;
@@ -16,7 +16,7 @@ use std::alloc::Global;
 use std::sync::Wait;
 
 /// So many accepts in a row may not fail.
-const FAILURES: u8 = 16;
+pub const ACCEPT_FAILURES: u8 = 16;
 
 /// Makes on the journal of that name, which is to be new, what a primary sends over a link that comes at the address. A caller that goes
 /// and has left nothing in the copy is passed over; after any other nobody is let in. What is left is let go.
@@ -141,8 +141,7 @@ fn serve_caller<K: Link, D: Disk>(link: &mut K, disk: &mut D) -> Option<StandbyE
 
 // Serves the link on the disk to its end.
 fn stand_by<K: Link, D: Disk>(link: &mut K, disk: &mut D) -> StandbyEnd
-    ensures ran { RanStandby D.told K.told (K.state link.old) (K.state link.new) (D.state disk.old)
-        (D.state disk.new) result }
+    ensures ran { RanOver D.Disk K.Link link disk result }
     ensures prompt { IsPrompt K.begun K.told (K.state link.old) (K.state link.new) }
     ensures hung_up { K.hung_up link.new ≡ K.hung_up link.old }
 {
@@ -153,7 +152,7 @@ fn stand_by<K: Link, D: Disk>(link: &mut K, disk: &mut D) -> StandbyEnd
 fn first_link<L: Listener, R: Wait>(listener: &mut L, rt: &R) -> Came<L::Link>
     ensures { IsFirst L.told L.Link.state (L.state listener.old) (L.state listener.new) result }
 {
-    for _ in 0..FAILURES {
+    for _ in 0..ACCEPT_FAILURES {
         match listener.accept(rt) {
             Came::Link(link) => return Came::Link(link),
             Came::End => return Came::End,

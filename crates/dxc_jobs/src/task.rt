@@ -2,9 +2,9 @@ ghost use Rattle.dxc_jobs.specs.Leaves.{left_by};
 
 use std::sync::Wait;
 
-/// A job that runs to its end, beside others. Behind its end it lets go what it held of its surroundings, and hands back the rest.
+/// A job that runs to its end, beside others. After its end it lets go what it held of its surroundings, and hands back the rest.
 pub trait Task {
-    /// What a job lets go: nothing is called on it behind the run.
+    /// What a job lets go: nothing is called on it after the run.
     type Done: Send + Drop + 'static;
 
     /// What a job leaves.

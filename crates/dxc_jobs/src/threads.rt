@@ -155,7 +155,7 @@ fn begin_each<J: Task + Send + Drop + 'static, P: Spawner, R: Wait>(
     }
 }
 
-/// Starts the workers' jobs, and the sessions' behind them where none of these failed.
+/// Starts the workers' jobs, and the sessions' after them where none of these failed.
 fn start_all<J: Task + Send + Drop + 'static, K: Task + Send + Drop + 'static, P: Spawner, R: Wait>(
     alloc: Global,
     spawner: &mut P,

@@ -6,7 +6,7 @@ pub trait LetGo {
     ghost use Rattle.dxc_leaving.specs.Values.{AnyValue, any_value};
 
     /// That this was let go, as it stands here. Nothing but `let_go` gives it of a type that isn't known, and that takes what it lets go, so
-    /// nothing was done with it behind that.
+    /// nothing was done with it after that.
     ghost gone: { AnyValue → Type 0 };
 
     /// Lets it go.

@@ -26,7 +26,7 @@ link_state l = record { left = bytes (text_left l.number l.text l.at l.sent); wr
 abbrev pub unread : ℕ → FabricId → LinkState
 unread number fabric = record { left = bytes (login_text ++ commands_behind number 0 most_commands); written = []; ended = false; reads = 0; read_faults = 0; write_faults = 0; sound = false; lasting = fabric_code fabric }
 
--- the worker that carries the frames behind its commands
+-- the worker that carries the frames after its commands
 abbrev pub worker_of : LoadLink → Worker
 worker_of l = l.carrier.seat.reader.worker
 

@@ -45,7 +45,7 @@ left_here p c e es false t r f more =
     let l = lt_of e.from.0 c.from.0 (found_has (λ d. nat_lt e.from.0 d.from.0 ≡ true) (is_from_on p) es c r.0 f) in
     more f ∙ ap (λ (ds : List Conn). c ∷ ds) (sym (ap (λ b. cond b (e ∷ from_on (c.from.0 + 1) es) (from_on (c.from.0 + 1) es)) (off_of (c.from.0 + 1) e (omega arith))))
 
--- the first from a port on, and then those behind it
+-- the first from a port on, and then those after it
 pub left_is : (p : ℕ) (c : Conn) (cs : List Conn) → RisesByFrom cs → first_from p cs ≡ Some c → from_on p cs ≡ c ∷ from_on (c.from.0 + 1) cs
 left_is p c [] r f = absurd (true_false cc)
 left_is p c (e ∷ es) r f = left_here p c e es (is_from_on p e) refl r f (λ g. left_is p c es r.1 g)

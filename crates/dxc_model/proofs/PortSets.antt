@@ -39,7 +39,7 @@ bit_true w b e = ap (λ n. n == 1) e
 none_in_word : (words : List ℕ) (word k : ℕ) → get_or words word 0 ≡ 0 → k / 64 ≡ word → has_port words k ≡ false
 none_in_word words word k e f = subst (λ (v : ℕ). has_bit (get_or words v 0) (k % 64) ≡ false) (sym f) (bit_false _ _ (ap (λ w. bit_at w (k % 64)) e ∙ bit_at-zero (k % 64)))
 
--- behind the last word there are none
+-- after the last word there are none
 pub none_past : (words : List ℕ) (word : ℕ) → length words ≤ word → IsNext words (word * 64) None
 none_past words word l = λ k h. none_in_word words (k / 64) k (get_or_past words (k / 64) 0 (omega arith)) refl
 
@@ -47,7 +47,7 @@ none_past words word l = λ k h. none_in_word words (k / 64) k (get_or_past word
 pub none_here : (words : List ℕ) (word k : ℕ) → get_or words word 0 ≡ 0 → word * 64 ≤ k → k < (word + 1) * 64 → has_port words k ≡ false
 none_here words word k e l m = none_in_word words word k e (omega arith)
 
--- what comes first behind ports that aren't there comes first from these on
+-- what comes first after ports that aren't there comes first from these on
 pub next_behind : (words : List ℕ) (from start : ℕ) (o : Option ℕ) → from ≤ start → ((k : ℕ) → from ≤ k → k < start → has_port words k ≡ false) → IsNext words start o → IsNext words from o
 next_behind words from start None l gone n = λ k h. elim (cases_lt k start) [ inl a ↦ gone k h a | inr b ↦ n k b ]
 next_behind words from start (Some p) l gone n = (let m = n.0 in omega arith, n.1, λ k h i. elim (cases_lt k start) [ inl a ↦ gone k h a | inr b ↦ n.2 k b i ])

@@ -60,7 +60,7 @@ skip_one p c e = elim (cases_lt c.from.0 p) [
   | inr l ↦ on_of p c l ∙ sym (on_of (p + 1) c (elim (cases_lt p c.from.0) [ inl m ↦ (omega arith) | inr m ↦ absurd (true_false (sym (eq-eqb c.from.0 p (let same : c.from.0 ≡ p = omega arith in same)) ∙ e)) ]))
 ]
 
--- where none is entered from a port, those from it on are those behind it
+-- where none is entered from a port, those from it on are those after it
 skipped : (p : ℕ) (cs : List Conn) → list_any (enters_from p) cs ≡ false → from_on p cs ≡ from_on (p + 1) cs
 skipped p [] e = refl
 skipped p (c ∷ cs) e = let n = or_false (enters_from p c) (list_any (enters_from p) cs) e in ap₂ (λ (b : Bool) (ds : List Conn). cond b (c ∷ ds) ds) (skip_one p c n.0) (skipped p cs n.1)
@@ -86,6 +86,6 @@ by_option : (o : Option Conn) → ((c : Conn) → o ≡ Some c → o ≡ None) �
 by_option None f = refl
 by_option (Some c) f = f c refl
 
--- behind the last port there are none
+-- after the last port there are none
 pub listed_end : (q : Conn → Bool) (t : Board) (i : SideIndex) (xs : List Conn) → IsKept t i → IsListed q t.conns xs (ports t.shape) → xs ≡ filter q t.conns
 listed_end q t i xs k w = listed_all q t.conns xs (ports t.shape) (by_option (first_from (ports t.shape) t.conns) (λ c f. let l = first_within t i (ports t.shape) c k f in absurd (let m = l.0 in let n = l.1 in let z : ⊥ = omega arith in z))) w

@@ -15,5 +15,5 @@ pub use mem_notes::MemNotes;
 pub use note::{Ending, Note};
 pub use notes::{Noted, Notes};
 pub use silence::Silence;
-pub use standing::{SessionAt, Standby, Standing};
+pub use standing::{PLACES, SessionAt, Standby, Standing};
 pub use word::Word;

@@ -3,6 +3,9 @@ use arrayvec::ArrayVec;
 use dxc_model::Class;
 use dxc_outside::Moment;
 
+/// How many places callers come in at: so many sessions there are at a time.
+pub const PLACES: usize = 16;
+
 /// The standby of a program that serves.
 #[derive(Clone, Copy)]
 pub enum Standby {
@@ -43,7 +46,7 @@ pub struct Standing {
     pub since: Option<Moment>,
     pub standby: Option<Standby>,
     /// In order of places.
-    pub sessions: ArrayVec<SessionAt, 16>,
+    pub sessions: ArrayVec<SessionAt, PLACES>,
 }
 
 impl Standing {

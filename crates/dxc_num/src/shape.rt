@@ -66,7 +66,7 @@ impl Shape {
         self.modules * self.slots
     }
 
-    /// The spare middle, behind the working ones.
+    /// The spare middle, after the working ones.
     pub fn spare(&self) -> Middle
         ensures { result.0 ≡ self.now.slots }
     {

@@ -1,4 +1,4 @@
--- Askings of an opener, one behind the other.
+-- Askings of an opener, one after the other.
 use Rattle.std.proofs.Common.{◌≡◌, ◌+◌, ◌-◌, ◌<◌, ◌∙◌, ℕ, zero, suc, arith, List, [], ◌∷◌, ◌++◌, append-nil, append_assoc, ap, refl, sym, subst}
 use Rattle.dxc_outside.specs.Asked.{Asking, AskedFor, asked_each}
 
@@ -7,7 +7,7 @@ module _ (asked : List Asking → Type 0) (well : Type 0) where
   pub asked_all : (all : List Asking) → asked all → AskedFor asked all well
   asked_all all is = record { made = all; rest = []; split = sym (append-nil all); asked = is; whole = λ w. refl }
 
-  -- it went badly before those behind
+  -- it went badly before those after
   pub asked_part : (first behind : List Asking) → asked first → (well → ⊥) → AskedFor asked (first ++ behind) well
   asked_part first behind is badly = record { made = first; rest = behind; split = refl; asked = is; whole = λ w. absurd (badly w) }
 
@@ -32,7 +32,7 @@ module _ {O : Type 0} (asked : O → O → List Asking → Type 0) (asked_on : (
       let e : all ≡ a.made = a.split ∙ ap (λ (l : List Asking). a.made ++ l) (a.whole w) ∙ append-nil a.made in
       subst (λ (l : List Asking). asked old between l) (sym e) a.asked
 
-  -- all of the first, and then those behind
+  -- all of the first, and then those after
   pub asked_behind : {W : Type 0} (first behind : List Asking) → asked old between first → AskedFor (asked between new) behind W → AskedFor (asked old new) (first ++ behind) W
   asked_behind first behind is b = record {
     made = first ++ b.made;
@@ -42,7 +42,7 @@ module _ {O : Type 0} (asked : O → O → List Asking → Type 0) (asked_on : (
     whole = b.whole;
   }
 
--- those of further numbers come behind
+-- those of further numbers come after
 each_more : (asking : ℕ → Asking) (k n m : ℕ) → m ≡ k + n → (rest : List Asking) × (asked_each asking m ≡ asked_each asking n ++ rest)
 each_more asking zero n m is = ([], (let e : m ≡ n = omega (arith, is) in ap (asked_each asking) e ∙ sym (append-nil (asked_each asking n))))
 each_more asking (suc k) n m is =

@@ -13,4 +13,5 @@ pub mod Moments
 pub mod Openings
 pub mod Pieces
 pub mod Spawners
+pub mod Stops
 pub mod Threads

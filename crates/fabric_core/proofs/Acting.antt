@@ -191,7 +191,7 @@ one_more c e c' h does =
 pub start_reached : (z : Size) → IsSize z → IsReached (start z)
 start_reached z s = record { sized = s; events = []; reached = refl }
 
--- one worker more, behind the others
+-- one worker more, after the others
 pub workers_more : (b n : ℕ) → new_workers b n ++ new_worker (b + n) ∷ [] ≡ new_workers b (n + 1)
 workers_more b zero = let e : b + 0 ≡ b = omega arith in ap (λ (k : ℕ). new_worker k ∷ []) e
 workers_more b (suc n) = let e : b + suc n ≡ (b + 1) + n = omega arith in let f : suc n + 1 ≡ suc (n + 1) = omega arith in

@@ -6,7 +6,7 @@ use Rattle.dxc_num.specs.declared.port.Middle.{Middle}
 use Rattle.dxc_num.specs.declared.port.Route.{Route}
 use Rattle.fabric_core.specs.declared.registers.Registers.{Registers}
 
--- The words of IN and those of MID lie middle by middle. A middle's words begin behind its number plus one times the modules, and IN words lie one further.
+-- The words of IN and those of MID lie middle by middle. A middle's words begin after its number plus one times the modules, and IN words lie one further.
 -- So the low byte of an OUT word, and a MID word, give a place without a subtraction
 abbrev pub in_cell : Dimensions → ℕ → Middle → ℕ
 in_cell d i k = (k.0 + 1) * d.modules + (i + 1)

@@ -15,6 +15,9 @@ use crate::seen::Seen;
 use crate::size::Size;
 use dxc_num::{Leg, Middle, Port, Shape};
 
+/// The most switches of OUT words that a mover makes.
+pub const MOST_SWITCHES: u64 = 1 << 48;
+
 // The leg and the middle are of the shape.
 fn is_inside(shape: Shape, leg: Leg, middle: Middle) -> bool
     ensures { IsTrue result ↔ (IsInside shape leg × IsMiddle shape middle) }
@@ -33,7 +36,7 @@ impl Mover {
         match (event, self.phase) {
             (CoreEvent::SetIn { leg, to }, Phase::Rest) => self.may_set_in(size, leg, to),
             (CoreEvent::SetMid, Phase::InSet { .. }) => true,
-            (CoreEvent::SwitchOut, Phase::MidSet { .. }) => self.log.len() < 1 << 48,
+            (CoreEvent::SwitchOut, Phase::MidSet { .. }) => (self.log.len() as u64) < MOST_SWITCHES,
             (CoreEvent::ClearOut(leg), Phase::Rest) => self.is_established(leg),
             (CoreEvent::ClearMid, Phase::MidSet { .. }) => true,
             (CoreEvent::ClearMid, Phase::Old { .. }) => self.all_passed(size),

@@ -16,6 +16,7 @@ mod state;
 mod step;
 mod worker;
 
+pub use allowed::MOST_SWITCHES;
 pub use event::{Actor, CoreEvent};
 pub use mover::Mover;
 pub use phase::Phase;

@@ -111,7 +111,7 @@ deals_at key z id d m v e is low = subst (λ (y : Size). Splits (Tied y) id v (d
 pub some_words : (z : Size) (n : ℕ) → IsSize z → n ≡ word_count z → 0 < n
 some_words z n s e = let w = s.workers in omega arith
 
--- new seats, one behind the other
+-- new seats, one after the other
 pub new_more : (f : FabricId) (n m : ℕ) (xs : List WorkerSeat) (x : WorkerSeat) → AreNew f n xs → n + length xs ≡ m → x.reader ≡ record { fabric = f; worker = new_worker m } → AreNew f n (xs ++ x ∷ [])
 new_more f n m [] x h e new = let same : m ≡ n = omega arith in (subst (λ (k : ℕ). x.reader ≡ record { fabric = f; worker = new_worker k }) same new, tt)
 new_more f n m (y ∷ ys) x h e new = (h.0, new_more f (n + 1) m ys x h.1 (omega arith) new)

@@ -12,7 +12,7 @@ use crate::fabric::Fabric;
 use crate::mover::MoverSeat;
 use crate::path::middle_of;
 use dxc_num::{Leg, Middle, Port, Reg, Route, Shape};
-use fabric_core::{CoreEvent, Phase};
+use fabric_core::{CoreEvent, MOST_SWITCHES, Phase};
 
 // The leg and the middle are of the shape.
 fn is_inside(shape: Shape, leg: Leg, middle: Middle) -> bool
@@ -40,7 +40,7 @@ impl MoverSeat {
         match (event, self.phase()) {
             (CoreEvent::SetIn { leg, to }, Phase::Rest) => self.may_set_in(fabric, leg, to),
             (CoreEvent::SetMid, Phase::InSet { .. }) => true,
-            (CoreEvent::SwitchOut, Phase::MidSet { .. }) => self.switches() < 1 << 48,
+            (CoreEvent::SwitchOut, Phase::MidSet { .. }) => self.switches() < MOST_SWITCHES,
             (CoreEvent::ClearOut(leg), Phase::Rest) => self.is_established(fabric, leg),
             (CoreEvent::ClearMid, Phase::MidSet { .. }) => true,
             (CoreEvent::ClearMid, Phase::Old { .. }) => self.all_passed(fabric),

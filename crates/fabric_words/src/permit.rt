@@ -1,11 +1,12 @@
 //! What the gate gives before each register write.
-ghost use Rattle.std.specs.Prelude.{◌≡◌, ◌∷◌, [], None, IfSome};
+ghost use Rattle.std.specs.Prelude.{◌≡◌, ◌∷◌, [], Err, IfOk};
 ghost use Rattle.dxc_causes.specs.Stops.{RoseOnlyFor};
+ghost use Rattle.dxc_outside.specs.Stops.{the_stop};
 ghost use Rattle.dxc_outside.specs.declared.gate.GatePlace.TheVariants.{Register};
 
 use crate::mover::MoverSeat;
 use crate::table::Token;
-use dxc_outside::{Gate, GatePlace, Pass1};
+use dxc_outside::{Gate, GatePlace, Stopped};
 use std::marker::Model;
 use std::snapshot::Snapshot;
 
@@ -27,19 +28,16 @@ impl Model for Permit {
 }
 
 impl MoverSeat {
-    /// Asks the gate before a register write. None: it stopped.
+    /// Asks the gate before a register write.
     #[inline(always)]
-    pub fn ask<G: Gate>(&self, gate: &mut G) -> Option<Permit>
-        ensures permit { IfSome result (λ p. p ≡ self.now.mover.written) }
-        ensures stopped { RoseOnlyFor (G.stops gate.old) (G.stops gate.new) (result ≡ None) }
+    pub fn ask<G: Gate>(&self, gate: &mut G) -> Result<Permit, Stopped>
+        ensures permit { IfOk result (λ p. p ≡ self.now.mover.written) }
+        ensures stopped { RoseOnlyFor (G.stops gate.old) (G.stops gate.new)
+            (result ≡ Err the_stop) }
         ensures asked { G.asked gate.old gate.new (Register ∷ []) }
     {
-        match gate.pass(GatePlace::Register) {
-            Pass1::Stop => None,
-            Pass1::Go => {
-                let asked = Snapshot::of(&self.token);
-                Some(Permit { asked })
-            }
-        }
+        gate.pass(GatePlace::Register)?;
+        let asked = Snapshot::of(&self.token);
+        Ok(Permit { asked })
     }
 }

@@ -1,4 +1,4 @@
--- Frames behind frames.
+-- Frames after frames.
 use Rattle.std.proofs.Common.{◌≡◌, ℕ, zero, suc, ◌+◌, List, [], ◌++◌, sym, refl, ap, ◌∙◌, subst, arith, append_assoc, append-nil}
 use Rattle.dxc_outside.specs.Frames.{LinesState}
 use Rattle.fabric_core.specs.declared.size.Size.{Size}

@@ -5,7 +5,7 @@ ghost use Rattle.fabric_core.specs.Working.{CanBegin};
 ghost use Rattle.frame_worker.specs.Lines.{Ran, askings, carrier_at, written_till};
 
 use crate::carry::carry_frame;
-use dxc_outside::{Frame, Gate, GatePlace, Lines, Pass1, Put};
+use dxc_outside::{Frame, Gate, GatePlace, Lines, Put, Stopped};
 use fabric_words::{Fabric, WorkerSeat};
 
 /// Why a worker stopped carrying frames.
@@ -115,8 +115,8 @@ fn run_frame<N: Lines, G: Gate>(
     ensures asked { G.asked gate.old gate.new (GatePlace.Frame ∷ []) }
 {
     match gate.pass(GatePlace::Frame) {
-        Pass1::Stop => return Some(LinesEnd::Stopped),
-        Pass1::Go => {}
+        Err(Stopped) => return Some(LinesEnd::Stopped),
+        Ok(()) => {}
     }
     match lines.read_frame(input) {
         Frame::Whole => {}

@@ -16,8 +16,8 @@ use fabric_words::{Fabric, Reader};
 /// The byte of an output that carries nothing.
 pub const IDLE: u8 = 0x7F;
 
-/// Where the words of an output module lie, from its first output's OUT word to behind its last one's. Its MID word of the middle that an
-/// OUT word names is `modules` times that name behind `mids`. A port's OUT word is so many behind `outs`.
+/// Where the words of an output module lie, from its first output's OUT word to after its last one's. Its MID word of the middle that an
+/// OUT word names is `modules` times that name after `mids`. A port's OUT word is so many after `outs`.
 ///
 /// It is made by the caller of the loop over outputs, so that the loop counts by places alone.
 #[derive(Clone, Copy)]

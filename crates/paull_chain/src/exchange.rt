@@ -7,10 +7,10 @@ ghost use Rattle.paull_chain.specs.Exchanges.{each_second, exchange, shifts};
 use arrayvec::ArrayVec;
 use dxc_num::{Leg, Middle};
 use paull_matrix::Side;
-use roll_plan::{Chain, Choice, LegOp, Move};
+use roll_plan::{Chain, Choice, LegOp, Move, Moves};
 
 // Moves each second leg, from the first one on or from the second one on.
-fn push_seconds(moves: &mut ArrayVec<Move, 94>, legs: &[Leg], first: bool, from: Middle, to: Middle)
+fn push_seconds(moves: &mut Moves, legs: &[Leg], first: bool, from: Middle, to: Middle)
     requires { array_vec_len moves.old + length (each_second first legs.now) ≤ 94 }
     ensures moves { moves.new.items ≡ moves.old.items ++ shifts (each_second first legs.now) from.0
         to.0 }
@@ -32,13 +32,7 @@ fn push_seconds(moves: &mut ArrayVec<Move, 94>, legs: &[Leg], first: bool, from:
 
 // Adds the exchange of a chain whose first leg is on `on` and whose second is on `next`.
 #[inline(always)]
-fn push_exchange(
-    moves: &mut ArrayVec<Move, 94>,
-    legs: &[Leg],
-    on: Middle,
-    next: Middle,
-    spare: Middle,
-)
+fn push_exchange(moves: &mut Moves, legs: &[Leg], on: Middle, next: Middle, spare: Middle)
     requires few { length legs.now ≤ 63 }
     requires none { moves.old.items ≡ [] }
     ensures { moves.new.items ≡ exchange legs.now on.0 next.0 spare.0 }

@@ -1,5 +1,5 @@
 -- Writes that lead to a colouring, as they are made.
-use Rattle.std.proofs.Common.{◌≡◌, ◌≢◌, ℕ, ◌+◌, ◌^◌, ◌≤◌, List, [], ◌∷◌, ◌++◌, length, drop, sym, refl, ap, ap₂, ◌∙◌, subst, arith, append_assoc}
+use Rattle.std.proofs.Common.{◌≡◌, ◌≢◌, ℕ, ◌+◌, ◌^◌, ◌≤◌, List, [], ◌∷◌, ◌++◌, length, drop, Ok, Err, sym, refl, ap, ap₂, ◌∙◌, subst, arith, append_assoc}
 use Rattle.dxc_num.specs.declared.register.RegWrite.{RegWrite}
 use Rattle.dxc_num.specs.Dimensions.{Dimensions, ports}
 use Rattle.roll_plan.specs.Works.{switches_in}
@@ -7,12 +7,11 @@ use Rattle.paull_matrix.specs.Colourings.{Colouring}
 use Rattle.fabric_core.specs.declared.size.Size.{Size}
 use Rattle.fabric_core.specs.declared.mover.Mover.{Mover}
 use Rattle.fabric_words.specs.Seats.{FabricId}
-use Rattle.roll_engine.specs.declared.answer.Advance.{Advance}
-use Rattle.roll_engine.specs.declared.answer.Advance.TheVariants.{Done, InFrame, Stopped}
+use Rattle.roll_engine.specs.declared.answer.Advance.TheVariants.{Done, InFrame}
 use Rattle.roll_engine.specs.declared.rolling.Behind.{Behind}
 use Rattle.roll_engine.specs.Rollings.{RollingAt, rest_of}
 use Rattle.roll_engine.specs.Courses.{Course, Goes, IsReady, course_of, course_after, gone}
-use Rattle.roll_engine.specs.Answers.{Advances, AnswerIs, GoesOn}
+use Rattle.roll_engine.specs.Answers.{Advances, Answer, AnswerIs, GoesOn}
 use Rattle.roll_engine.specs.Cold.{end_writes, joins_of, left_behind, left_of, legs_then, parts_behind}
 use Rattle.roll_engine.specs.Leading.{IsColdLeading, IsLeading, IsLeadingBegun, IsLedToRest, IsSwitchedByJoins}
 use Rattle.roll_engine.proofs.Running.{after_on, course_runs, ruled_runs, runs_join, switch_counted, switches_join}
@@ -102,10 +101,10 @@ some_more [] ys some_write e = absurd (some_write refl)
 some_more (x ∷ xs) ys some_write e = let h : x ∷ (xs ++ ys) ≡ [] = e in cc
 
 -- what an answer of `advance` says of all that was left and is left
-pub answer_on : (z : Size) (c : Colouring) (first old new : RollingAt) (m a b : Mover) (answer : Advance) → Advances z (left_of c m first) (left_of c a old) m a → GoesOn z old new a b → answer ≢ Done
+pub answer_on : (z : Size) (c : Colouring) (first old new : RollingAt) (m a b : Mover) (answer : Answer) → Advances z (left_of c m first) (left_of c a old) m a → GoesOn z old new a b → answer ≢ Ok Done
     → AnswerIs z (rest_of old) (rest_of new) a b answer → AnswerIs z (left_of c m first) (left_of c b new) m b answer
-answer_on z c first old new m a b Done way goes other h = absurd (other refl)
-answer_on z c first old new m a b (InFrame f) way goes other h =
+answer_on z c first old new m a b (Ok Done) way goes other h = absurd (other refl)
+answer_on z c first old new m a b (Ok (InFrame f)) way goes other h =
     let behind : List RegWrite = left_behind c (legs_then b new) new.behind in record {
       leg = h.leg;
       old = h.old;
@@ -116,7 +115,7 @@ answer_on z c first old new m a b (InFrame f) way goes other h =
       advances = advances_on z (left_of c m first) (left_of c a old) (left_of c b new) m a h.reached way (all_advances z c old new a b h.reached goes h.advances);
       seen = h.seen;
     }
-answer_on z c first old new m a b Stopped way goes other h = some_more (rest_of new) (left_behind c (legs_then b new) new.behind) h
+answer_on z c first old new m a b (Err e) way goes other h = some_more (rest_of new) (left_behind c (legs_then b new) new.behind) h
 
 -- a call of `advance` in the loop
 pub record IsOnWay (z : Size) (c : Colouring) (first now : RollingAt) (m m' : Mover) : Type 0 where

@@ -1,6 +1,6 @@
 -- The next writes, one call behind the other.
-use Rattle.std.proofs.Common.{◌≡◌, ◌≤◌, ℕ, List, [], ◌∷◌, ◌++◌, Some, Option, sym, refl, ap, ◌∙◌, subst, arith, length-append, append_assoc}
-use Rattle.std.specs.Prelude.{slice_get}
+use Rattle.std.proofs.Common.{◌≡◌, ◌≤◌, ℕ, List, [], ◌∷◌, ◌++◌, Some, Option, Ok, Err, true≢false, sym, refl, ap, ◌∙◌, subst, arith, length-append, append_assoc}
+use Rattle.std.specs.Prelude.{IsErr, slice_get}
 use Rattle.dxc_causes.specs.Causes.{Rose}
 use Rattle.dxc_num.specs.declared.register.RegWrite.{RegWrite}
 use Rattle.dxc_num.specs.declared.register.WriteKind.TheVariants.{ClearMid}
@@ -12,12 +12,13 @@ use Rattle.roll_plan.specs.Works.{writes_of}
 use Rattle.roll_plan.specs.Nexts.{IsNext}
 use Rattle.fabric_core.specs.declared.size.Size.{Size}
 use Rattle.fabric_core.specs.declared.mover.Mover.{Mover}
+use Rattle.dxc_outside.specs.Stops.{the_stop}
 use Rattle.roll_engine.specs.declared.answer.Advance.{Advance}
-use Rattle.roll_engine.specs.declared.answer.Advance.TheVariants.{Done, InFrame, Stopped}
+use Rattle.roll_engine.specs.declared.answer.Advance.TheVariants.{Done, InFrame}
 use Rattle.roll_engine.specs.Rollings.{RollingAt, at_step, rest_of}
 use Rattle.roll_engine.specs.Writes.{Looks, Makes}
 use Rattle.roll_engine.specs.Courses.{IsOld, IsReady}
-use Rattle.roll_engine.specs.Answers.{AnswerIs, GoesOn, IsSeen, asked_at}
+use Rattle.roll_engine.specs.Answers.{Answer, AnswerIs, GoesOn, IsSeen, asked_at}
 use Rattle.roll_engine.specs.Walks.{IsHalted, Walks}
 use Rattle.dxc_causes.specs.Stops.{RoseOnlyFor}
 use Rattle.dxc_causes.proofs.Stops.{has_risen, stands_still}
@@ -28,11 +29,26 @@ use Rattle.roll_engine.proofs.Going.{rest_some, next, some_left, goes_none, goes
 use Rattle.roll_engine.proofs.Running.{runs_join}
 use Rattle.roll_engine.proofs.Leading.{advances_on}
 
-pub not_stopped : Done ≡ Stopped → ⊥
+pub not_stopped : Ok Done ≡ Err the_stop → ⊥
 not_stopped e = cc
 
-frame_goes : (f : ℕ) → InFrame f ≡ Stopped → ⊥
+frame_goes : (f : ℕ) → Ok (InFrame f) ≡ Err the_stop → ⊥
 frame_goes f e = cc
+
+-- an answer that `?` let through, and how far it came
+pub far_is : {a : Answer} {x y : Advance} → a ≡ Ok x → x ≡ y → a ≡ Ok y
+far_is is same = is ∙ ap (λ (x : Advance). Ok x) same
+
+-- an answer that `?` handed on
+pub stop_is : (a : Answer) → IsErr a → Err the_stop ≡ a
+stop_is (Ok x) none = absurd (true≢false (sym none))
+stop_is (Err e) is = refl
+
+pub one_far : {a : Answer} {x : Advance} → a ≡ Ok x → a ≡ Ok Done → x ≡ Done
+one_far is e = cc
+
+pub not_done : (a : Answer) → IsErr a → a ≡ Ok Done → ⊥
+not_done a is e = let h : Err the_stop ≡ Ok Done = stop_is a is ∙ e in cc
 
 goes_join : (z : Size) (old mid new : RollingAt) (m a b : Mover) → GoesOn z old mid m a → GoesOn z mid new a b → GoesOn z old new m b
 goes_join z old mid new m a b h k = record {
@@ -46,9 +62,9 @@ goes_join z old mid new m a b h k = record {
   step = let e = length-append h.advances.writes k.advances.writes in let s = h.step in let t = k.step in omega arith;
 }
 
-halted_on : (z : Size) (old mid new : RollingAt) (m a b : Mover) (answer : Advance) → GoesOn z old mid m a → IsHalted z (rest_of mid) (rest_of new) a b answer → IsHalted z (rest_of old) (rest_of new) m b answer
-halted_on z old mid new m a b Done h k = tt
-halted_on z old mid new m a b (InFrame f) h k = record {
+halted_on : (z : Size) (old mid new : RollingAt) (m a b : Mover) (answer : Answer) → GoesOn z old mid m a → IsHalted z (rest_of mid) (rest_of new) a b answer → IsHalted z (rest_of old) (rest_of new) m b answer
+halted_on z old mid new m a b (Ok Done) h k = tt
+halted_on z old mid new m a b (Ok (InFrame f)) h k = record {
   leg = k.leg;
   old = k.old;
   phase = k.phase;
@@ -58,15 +74,15 @@ halted_on z old mid new m a b (InFrame f) h k = record {
   advances = advances_on z (rest_of old) (rest_of mid) (rest_of new) m a k.reached h.advances k.advances;
   seen = k.seen;
 }
-halted_on z old mid new m a b Stopped h k = k
+halted_on z old mid new m a b (Err e) h k = k
 
-pub answer_is : (z : Size) (before left : List RegWrite) (m b : Mover) (answer : Advance) → (answer ≡ Done → left ≡ []) → IsHalted z before left m b answer → AnswerIs z before left m b answer
-answer_is z before left m b Done all h = all refl
-answer_is z before left m b (InFrame f) all h = h
-answer_is z before left m b Stopped all h = h
+pub answer_is : (z : Size) (before left : List RegWrite) (m b : Mover) (answer : Answer) → (answer ≡ Ok Done → left ≡ []) → IsHalted z before left m b answer → AnswerIs z before left m b answer
+answer_is z before left m b (Ok Done) all h = all refl
+answer_is z before left m b (Ok (InFrame f)) all h = h
+answer_is z before left m b (Err e) all h = h
 
 module _ {G : Type 0} (stops : G → ℕ) (asks : G → G → List GatePlace → Type 0) (z : Size) where
-  pub walks_none : ((g : G) → asks g g []) → (r : RollingAt) (m : Mover) (g : G) → IsReady z (rest_of r) m → Walks stops asks z r r m m g g Done
+  pub walks_none : ((g : G) → asks g g []) → (r : RollingAt) (m : Mover) (g : G) → IsReady z (rest_of r) m → Walks stops asks z r r m m g g (Ok Done)
   walks_none unasked r m g ready = record {
     goes_on = goes_none z r m;
     ready = ready;
@@ -75,33 +91,33 @@ module _ {G : Type 0} (stops : G → ℕ) (asks : G → G → List GatePlace →
     asked = subst (asks g g) (sym (asked_nothing (rest_of r))) (unasked g);
   }
 
-  pub walks_on : ((old between new : G) (before after : List GatePlace) → asks old between before → asks between new after → asks old new (before ++ after)) → (old mid new : RollingAt) (m a b : Mover) (g h g' : G) (answer : Advance)
-      → Walks stops asks z old mid m a g h Done → Walks stops asks z mid new a b h g' answer → Walks stops asks z old new m b g g' answer
+  pub walks_on : ((old between new : G) (before after : List GatePlace) → asks old between before → asks between new after → asks old new (before ++ after)) → (old mid new : RollingAt) (m a b : Mover) (g h g' : G) (answer : Answer)
+      → Walks stops asks z old mid m a g h (Ok Done) → Walks stops asks z mid new a b h g' answer → Walks stops asks z old new m b g g' answer
   walks_on on old mid new m a b g h g' answer one two = let same : stops h ≡ stops g = one.stopped.only not_stopped in record {
     goes_on = goes_join z old mid new m a b one.goes_on two.goes_on;
     ready = two.ready;
     halted = halted_on z old mid new m a b answer one.goes_on two.halted;
-    stopped = subst (λ (n : ℕ). RoseOnlyFor n (stops g') (answer ≡ Stopped)) same two.stopped;
+    stopped = subst (λ (n : ℕ). RoseOnlyFor n (stops g') (answer ≡ Err the_stop)) same two.stopped;
     asked = subst (asks g g') (asked_behind (rest_of old) (rest_of mid) (rest_of new) one.goes_on.advances.writes two.goes_on.advances.writes answer one.goes_on.advances.split two.goes_on.advances.split)
-        (on g h g' (asked_at (rest_of old) (rest_of mid) Done) (asked_at (rest_of mid) (rest_of new) answer) one.asked two.asked);
+        (on g h g' (asked_at (rest_of old) (rest_of mid) (Ok Done)) (asked_at (rest_of mid) (rest_of new) answer) one.asked two.asked);
   }
 
   -- the same behind an answer that is Done
-  pub walks_then : ((old between new : G) (before after : List GatePlace) → asks old between before → asks between new after → asks old new (before ++ after)) → (old mid new : RollingAt) (m a b : Mover) (g h g' : G) (before answer : Advance)
-      → before ≡ Done → Walks stops asks z old mid m a g h before → Walks stops asks z mid new a b h g' answer → Walks stops asks z old new m b g g' answer
-  walks_then on old mid new m a b g h g' before answer done one two = walks_on on old mid new m a b g h g' answer (subst (λ (x : Advance). Walks stops asks z old mid m a g h x) done one) two
+  pub walks_then : ((old between new : G) (before after : List GatePlace) → asks old between before → asks between new after → asks old new (before ++ after)) → (old mid new : RollingAt) (m a b : Mover) (g h g' : G) (before answer : Answer)
+      → before ≡ Ok Done → Walks stops asks z old mid m a g h before → Walks stops asks z mid new a b h g' answer → Walks stops asks z old new m b g g' answer
+  walks_then on old mid new m a b g h g' before answer done one two = walks_on on old mid new m a b g h g' answer (subst (λ (x : Answer). Walks stops asks z old mid m a g h x) done one) two
 
   -- the count of the writes made goes from the rolling into a local, and back
-  pub walks_reached : (r r' : RollingAt) (n t : ℕ) (m m' : Mover) (g g' : G) (answer : Advance) → n ≡ r.step → r' ≡ at_step t r → Walks stops asks z (at_step n r) (at_step t r) m m' g g' answer → Walks stops asks z r r' m m' g g' answer
+  pub walks_reached : (r r' : RollingAt) (n t : ℕ) (m m' : Mover) (g g' : G) (answer : Answer) → n ≡ r.step → r' ≡ at_step t r → Walks stops asks z (at_step n r) (at_step t r) m m' g g' answer → Walks stops asks z r r' m m' g g' answer
   walks_reached r r' n t m m' g g' answer en er h = subst (λ (p : RollingAt × RollingAt). Walks stops asks z p.0 p.1 m m' g g' answer) (λ i. (at_step (en i) r, sym er i)) h
 
   -- what came of one write, the next one
   module _ (r : RollingAt) (w : RegWrite) (m m' : Mover) (g g' : G) (at : slice_get (writes_of r.work) r.step ≡ Some w) (ready : IsReady z (rest_of r) m) where
-    asked_one : Register ∷ [] ≡ asked_at (rest_of r) (rest_of (next r)) Done
+    asked_one : Register ∷ [] ≡ asked_at (rest_of r) (rest_of (next r)) (Ok Done)
     asked_one = let left : List RegWrite = rest_of (next r) in
-        ap (λ (places : List GatePlace). places ++ Register ∷ []) (sym (asked_nothing (w ∷ left))) ∙ (asked_more (w ∷ left) [] w left refl ∙ ap (λ (ws : List RegWrite). asked_at ws left Done) (sym (rest_some r w at)))
+        ap (λ (places : List GatePlace). places ++ Register ∷ []) (sym (asked_nothing (w ∷ left))) ∙ (asked_more (w ∷ left) [] w left refl ∙ ap (λ (ws : List RegWrite). asked_at ws left (Ok Done)) (sym (rest_some r w at)))
 
-    pub walks_made : (fs : List (ℕ × ℕ)) (a : Mover) → Looks z fs m a → Makes z w a m' → stops g' ≡ stops g → asks g g' (Register ∷ []) → Walks stops asks z r (next r) m m' g g' Done
+    pub walks_made : (fs : List (ℕ × ℕ)) (a : Mover) → Looks z fs m a → Makes z w a m' → stops g' ≡ stops g → asks g g' (Register ∷ []) → Walks stops asks z r (next r) m m' g g' (Ok Done)
     walks_made fs a looks makes same told = record {
       goes_on = goes_made z r r w fs m m a m' (goes_none z r m) at looks makes;
       ready = ready_made z w (rest_of (next r)) a m' makes (ready_looks z (w ∷ rest_of (next r)) fs m a looks (ready_next z r w m at ready));
@@ -110,7 +126,7 @@ module _ {G : Type 0} (stops : G → ℕ) (asks : G → G → List GatePlace →
       asked = subst (asks g g') asked_one told;
     }
 
-    pub walks_in_frame : (f : ℕ) → (w.kind ≡ ClearMid) × IsOld m.phase × IsSeen z m m' f → stops g' ≡ stops g → asks g g' [] → Walks stops asks z r r m m' g g' (InFrame f)
+    pub walks_in_frame : (f : ℕ) → (w.kind ≡ ClearMid) × IsOld m.phase × IsSeen z m m' f → stops g' ≡ stops g → asks g g' [] → Walks stops asks z r r m m' g g' (Ok (InFrame f))
     walks_in_frame f h same told = let looks = seen_looks z m m' f h.2 in record {
       goes_on = goes_look z r r looks.0 m m m' (goes_none z r m) looks.1;
       ready = ready_looks z (rest_of r) looks.0 m m' looks.1 ready;
@@ -119,7 +135,7 @@ module _ {G : Type 0} (stops : G → ℕ) (asks : G → G → List GatePlace →
       asked = subst (asks g g') (sym (asked_nothing (rest_of r))) told;
     }
 
-    pub walks_stopped : (fs : List (ℕ × ℕ)) → Looks z fs m m' → Rose (stops g) (stops g') → stops g ≤ stops g' → asks g g' (Register ∷ []) → Walks stops asks z r r m m' g g' Stopped
+    pub walks_stopped : (fs : List (ℕ × ℕ)) → Looks z fs m m' → Rose (stops g) (stops g') → stops g ≤ stops g' → asks g g' (Register ∷ []) → Walks stops asks z r r m m' g g' (Err the_stop)
     walks_stopped fs looks rose later told = record {
       goes_on = goes_look z r r fs m m m' (goes_none z r m) looks;
       ready = ready_looks z (rest_of r) fs m m' looks ready;

@@ -1,5 +1,5 @@
 -- What a call of `advance` says.
-use Rattle.std.specs.Prelude.{◌≡◌, ◌≢◌, ℕ, ◌+◌, ◌-◌, ◌<◌, ◌%◌, List, [], ◌∷◌, ◌++◌, length, replicate}
+use Rattle.std.specs.Prelude.{◌≡◌, ◌≢◌, ℕ, ◌+◌, ◌-◌, ◌<◌, ◌%◌, List, [], ◌∷◌, ◌++◌, length, replicate, Result, Ok, Err}
 use Rattle.dxc_num.specs.declared.port.Leg.{Leg}
 use Rattle.dxc_num.specs.declared.port.Middle.{Middle}
 use Rattle.dxc_num.specs.declared.register.RegWrite.{RegWrite}
@@ -7,6 +7,7 @@ use Rattle.dxc_num.specs.declared.register.WriteKind.TheVariants.{ClearMid}
 use Rattle.roll_plan.specs.Works.{write}
 use Rattle.dxc_outside.specs.declared.gate.GatePlace.{GatePlace}
 use Rattle.dxc_outside.specs.declared.gate.GatePlace.TheVariants.{Register}
+use Rattle.dxc_outside.specs.declared.stopped.Stopped.{Stopped}
 use Rattle.fabric_core.specs.declared.size.Size.{Size}
 use Rattle.fabric_core.specs.declared.mover.Mover.{Mover}
 use Rattle.fabric_core.specs.declared.phase.Phase.TheVariants.{Old}
@@ -57,11 +58,15 @@ pub record IsInFrame (z : Size) (before left : List RegWrite) (m m' : Mover) (f 
   pub advances : Advances z before left m reached
   pub seen : IsSeen z reached m' f
 
+-- what a call answers: how far it came, or that the gate stopped before the next write, which isn't made
+abbrev pub Answer : Type 0
+Answer = Result Advance Stopped
+
 -- what an answer says of the writes that were left before and are left now
-abbrev pub AnswerIs : Size → List RegWrite → List RegWrite → Mover → Mover → Advance → Type 0
-AnswerIs z before left m m' answer.Done = left ≡ []
-AnswerIs z before left m m' (answer.InFrame f) = IsInFrame z before left m m' f
-AnswerIs z before left m m' answer.Stopped = left ≢ []
+abbrev pub AnswerIs : Size → List RegWrite → List RegWrite → Mover → Mover → Answer → Type 0
+AnswerIs z before left m m' (Ok answer.Done) = left ≡ []
+AnswerIs z before left m m' (Ok (answer.InFrame f)) = IsInFrame z before left m m' f
+AnswerIs z before left m m' (Err e) = left ≢ []
 
 -- the writes that are left to a mover
 pub record Ahead : Type 0 where
@@ -72,27 +77,27 @@ abbrev pub ahead_of : Mover → List RegWrite → Ahead
 ahead_of m writes = record { mover = m; writes = writes }
 
 -- the same by what was left before and after
-abbrev pub IsAnswer : Size → (old new : Ahead) → Advance → Type 0
+abbrev pub IsAnswer : Size → (old new : Ahead) → Answer → Type 0
 IsAnswer z old new a = AnswerIs z old.writes new.writes old.mover new.mover a
 
 -- what came of one write
-abbrev pub StepIs : Size → RegWrite → Mover → Mover → Step → Type 0
-StepIs z w m m' step.Made = (fs : List (ℕ × ℕ)) × (a : Mover) × Looks z fs m a × Makes z w a m'
-StepIs z w m m' (step.InFrame f) = (w.kind ≡ ClearMid) × IsOld m.phase × IsSeen z m m' f
-StepIs z w m m' step.Stopped = (fs : List (ℕ × ℕ)) × Looks z fs m m'
+abbrev pub StepIs : Size → RegWrite → Mover → Mover → Result Step Stopped → Type 0
+StepIs z w m m' (Ok step.Made) = (fs : List (ℕ × ℕ)) × (a : Mover) × Looks z fs m a × Makes z w a m'
+StepIs z w m m' (Ok (step.InFrame f)) = (w.kind ≡ ClearMid) × IsOld m.phase × IsSeen z m m' f
+StepIs z w m m' (Err e) = (fs : List (ℕ × ℕ)) × Looks z fs m m'
 
 -- where the gate was asked at one write: before it, unless a frame stood in its way
-abbrev pub asked_at_step : Step → List GatePlace
-asked_at_step step.Made = Register ∷ []
-asked_at_step (step.InFrame f) = []
-asked_at_step step.Stopped = Register ∷ []
+abbrev pub asked_at_step : Result Step Stopped → List GatePlace
+asked_at_step (Ok step.Made) = Register ∷ []
+asked_at_step (Ok (step.InFrame f)) = []
+asked_at_step (Err e) = Register ∷ []
 
 -- how often the gate was asked, where so many writes were made: once before each of them, and once more where it stopped
-abbrev pub askings : ℕ → Advance → ℕ
-askings n answer.Done = n
-askings n (answer.InFrame f) = n
-askings n answer.Stopped = n + 1
+abbrev pub askings : ℕ → Answer → ℕ
+askings n (Ok answer.Done) = n
+askings n (Ok (answer.InFrame f)) = n
+askings n (Err e) = n + 1
 
 -- where the gate was asked in a call, of which the writes that were left before and are left now are told
-abbrev pub asked_at : List RegWrite → List RegWrite → Advance → List GatePlace
+abbrev pub asked_at : List RegWrite → List RegWrite → Answer → List GatePlace
 asked_at before left a = replicate (askings (length before - length left) a) Register

@@ -5,8 +5,6 @@ pub enum Advance {
     Done,
     /// The next write clears an old MID word, and a frame of this number runs that may still follow it.
     InFrame(u64),
-    /// The gate stopped before the next write, which isn't made.
-    Stopped,
 }
 
 /// What came of one write.
@@ -14,5 +12,4 @@ pub enum Advance {
 pub(crate) enum Step {
     Made,
     InFrame(u64),
-    Stopped,
 }

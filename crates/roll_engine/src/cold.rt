@@ -1,6 +1,7 @@
 //! All legs of a matrix, joined one by one on a fabric on which first all others are parted.
-ghost use Rattle.std.specs.Prelude.{◌≡◌, ◌≢◌, ◌++◌, ℕ};
+ghost use Rattle.std.specs.Prelude.{◌≡◌, ◌≢◌, ◌++◌, ℕ, Ok, Err};
 ghost use Rattle.dxc_causes.specs.Stops.{RoseOnlyFor};
+ghost use Rattle.dxc_outside.specs.Stops.{the_stop};
 ghost use Rattle.roll_engine.specs.Stages.{IsAtRestOn};
 ghost use Rattle.roll_engine.specs.Answers.{Advances, IsAnswer, ahead_of, asked_at};
 ghost use Rattle.roll_engine.specs.Cold.{IsCold, IsColdAt, left_of};
@@ -9,7 +10,7 @@ ghost use Rattle.roll_engine.specs.Leading.{IsColdLeading};
 use crate::answer::Advance;
 use crate::rolling::Rolling;
 use crate::run::advance;
-use dxc_outside::Gate;
+use dxc_outside::{Gate, Stopped};
 use fabric_words::{Fabric, MoverSeat};
 use paull_matrix::Matrix;
 
@@ -22,7 +23,7 @@ pub fn advance_cold<G: Gate>(
     mover: &mut MoverSeat,
     rolling: &mut Rolling,
     gate: &mut G,
-) -> Advance
+) -> Result<Advance, Stopped>
     requires own { mover.old.fabric ≡ fabric.now }
     requires leading { IsColdLeading mover.old.fabric.size matrix.now rolling.old mover.old.mover }
     ensures fabric { mover.new.fabric ≡ mover.old.fabric }
@@ -36,24 +37,24 @@ pub fn advance_cold<G: Gate>(
     ensures answer { IsAnswer mover.old.fabric.size
         (ahead_of mover.old.mover (left_of matrix.now mover.old.mover rolling.old))
         (ahead_of mover.new.mover (left_of matrix.now mover.new.mover rolling.new)) result }
-    ensures done { result ≡ Advance.Done
+    ensures done { result ≡ Ok Advance.Done
         → IsAtRestOn mover.old.fabric.size matrix.now mover.new.mover }
     ensures cold { IsColdAt mover.old.fabric.size matrix.now rolling.old mover.old.mover
         → IsColdAt mover.old.fabric.size matrix.now rolling.new mover.new.mover }
     ensures joins { IsColdAt mover.old.fabric.size matrix.now rolling.old mover.old.mover → (f : ℕ)
-        → result ≢ Advance.InFrame f }
-    ensures stopped { RoseOnlyFor (G.stops gate.old) (G.stops gate.new) (result ≡ Advance.Stopped) }
+        → result ≢ Ok (Advance.InFrame f) }
+    ensures stopped { RoseOnlyFor (G.stops gate.old) (G.stops gate.new) (result ≡ Err the_stop) }
     ensures asked { G.asked gate.old gate.new
         (asked_at (left_of matrix.now mover.old.mover rolling.old)
         (left_of matrix.now mover.new.mover rolling.new) result) }
 {
     loop {
-        match advance(fabric, mover, rolling, gate) {
+        match advance(fabric, mover, rolling, gate)? {
             Advance::Done => {}
-            answer => return answer,
+            halted => return Ok(halted),
         }
         if !rolling.take_next(matrix, fabric, mover) {
-            return Advance::Done;
+            return Ok(Advance::Done);
         }
     }
 }

@@ -8,6 +8,7 @@ mod looks;
 mod make;
 mod rolling;
 pub mod run;
+mod several;
 
 pub use answer::Advance;
 pub use rolling::{Behind, Rolling};

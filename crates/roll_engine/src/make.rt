@@ -1,7 +1,8 @@
 //! One register write.
-ghost use Rattle.std.specs.Prelude.{◌≡◌, [], ◌∷◌, ℕ, List, IfNone, IfSome};
+ghost use Rattle.std.specs.Prelude.{◌≡◌, [], ◌∷◌, ℕ, List, IfNone, IfSome, Err};
 ghost use Rattle.dxc_causes.specs.Stops.{RoseOnlyFor};
 ghost use Rattle.dxc_num.specs.declared.register.WriteKind.TheVariants.{ClearMid};
+ghost use Rattle.dxc_outside.specs.Stops.{the_stop};
 ghost use Rattle.fabric_core.specs.State.{IsSize};
 ghost use Rattle.fabric_core.specs.Owned.{IsMoverRuled};
 ghost use Rattle.fabric_core.specs.Moving.{AllPassed};
@@ -13,7 +14,7 @@ ghost use Rattle.roll_engine.specs.Writes.{Looks, Makes};
 use crate::answer::Step;
 use crate::looks::look_all;
 use dxc_num::{RegWrite, WriteKind};
-use dxc_outside::Gate;
+use dxc_outside::{Gate, Stopped};
 use fabric_words::{Fabric, MoverSeat, Permit, Phase};
 
 // Makes a write, which may be made.
@@ -64,22 +65,18 @@ pub(crate) fn step_on<G: Gate>(
     mover: &mut MoverSeat,
     write: RegWrite,
     gate: &mut G,
-) -> Step
+) -> Result<Step, Stopped>
     requires own { mover.old.fabric ≡ fabric.now }
     requires ready { IsReady mover.old.fabric.size (write ∷ []) mover.old.mover }
     ensures fabric { mover.new.fabric ≡ mover.old.fabric }
     ensures step { StepIs mover.old.fabric.size write mover.old.mover mover.new.mover result }
-    ensures stopped { RoseOnlyFor (G.stops gate.old) (G.stops gate.new) (result ≡ Step.Stopped) }
+    ensures stopped { RoseOnlyFor (G.stops gate.old) (G.stops gate.new) (result ≡ Err the_stop) }
     ensures asked { G.asked gate.old gate.new (asked_at_step result) }
 {
     if let Some(frame) = clear_way(fabric, mover, write.kind) {
-        return Step::InFrame(frame);
+        return Ok(Step::InFrame(frame));
     }
-    match mover.ask(gate) {
-        None => Step::Stopped,
-        Some(permit) => {
-            make(fabric, mover, write, &permit);
-            Step::Made
-        }
-    }
+    let permit = mover.ask(gate)?;
+    make(fabric, mover, write, &permit);
+    Ok(Step::Made)
 }

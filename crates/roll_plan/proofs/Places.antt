@@ -63,7 +63,7 @@ module _ (ws xs : List RegWrite) (t place : ℕ) (same : (r : ℕ) → place + r
   next_in (next.Join l k) h = begins_in 2 (join_writes l k) (write SwitchOut l k) refl h
   next_in (next.Part l k) h = begins_in 2 (part_writes l k) (write ClearIn l k) refl h
 
--- the moves' writes, and those of a join behind them
+-- the moves' writes, and those of a join after them
 pub next_front : (xs ys : List RegWrite) (place : ℕ) (n : Next) → IsNext xs place (Some n) → IsNext (xs ++ ys) place (Some n)
 next_front xs ys place n h = next_in (xs ++ ys) xs place place (λ r room. at_front xs ys (place + r) room) n h
 

@@ -7,6 +7,6 @@ mod op_writes;
 mod work;
 
 pub use next::{Next, next_at_step};
-pub use op::{Chain, Choice, LegOp, Move};
+pub use op::{Chain, Choice, LegOp, Move, Moves};
 pub use op_writes::{MOVE, move_write, writes_of_join, writes_of_part};
 pub use work::{Work, switches, write_at_step, writes};

@@ -41,6 +41,9 @@ pub struct Move {
     pub to: Middle,
 }
 
+/// Moves in order. A chain has 63 legs at most, each second of which goes over the spare: 94 moves.
+pub type Moves = ArrayVec<Move, 94>;
+
 /// What is done for one leg, or for the legs of one middle.
 #[derive(PartialEq, Eq, Drop)]
 pub enum LegOp {
@@ -48,7 +51,7 @@ pub enum LegOp {
     Join {
         leg: Leg,
         choice: Choice,
-        moves: ArrayVec<Move, 94>,
+        moves: Moves,
     },
     /// The leg, which is on this middle, is parted.
     Part {
@@ -57,7 +60,7 @@ pub enum LegOp {
     },
     /// Moves without a join.
     Shift {
-        moves: ArrayVec<Move, 94>,
+        moves: Moves,
     },
 }
 

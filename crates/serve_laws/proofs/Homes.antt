@@ -1,4 +1,4 @@
--- A place that rests takes the Provisioner out and brings it home: so it is behind each of its sessions, and behind all of them the Provisioner is home.
+-- A place that rests takes the Provisioner out and brings it home: so it is after each of its sessions, and after all of them the Provisioner is home.
 use Rattle.std.specs.Prelude.{if◌then◌else◌}
 use Rattle.std.proofs.Common.{◌≡◌, ◌≢◌, ◌<◌, ℕ, Bool, true, false, List, [], ◌∷◌, ◌++◌, Option, Some, None, refl, sym, ◌∙◌, ap, subst, append-nil, append_assoc, inl, inr}
 use Rattle.std.proofs.lemmas.Bool.Decides.{eqb_tells}
@@ -66,7 +66,7 @@ pub record HasRested (s : SeatAt) : Type 0 where
   pub saw : codes (began s.opening.due) ++ s.seen ≡ codes history
   pub rests : Rests s.place history
 
--- a session of the place: behind what it had seen it has seen these entries, before which its gate was asked for its own
+-- a session of the place: after what it had seen it has seen these entries, before which its gate was asked for its own
 pub record GoesOn (old new : SeatAt) : Type 0 where
   pub same : IsSameSeat old new
   pub before : List Entry
@@ -88,7 +88,7 @@ rested_on old new x r =
       rests = subst (λ (n : ℕ). Rests n (x.before ++ x.entries)) (sym x.same.1) then_rests;
     }
 
--- so do several, one behind the other
+-- so do several, one after the other
 pub rested_all : {S K : Type 0} (Step : S → S → K → Type 0) (seat : S → SeatAt) → ((t u : S) (k : K) → Step t u k → GoesOn (seat t) (seat u)) → (s u : S) (ks : List K) → InTurn Step s ks u → HasRested (seat s) → HasRested (seat u)
 rested_all Step seat goes _ _ _ (none_yet s) r = r
 rested_all Step seat goes _ _ _ (one_more s t u ks k turns x) r = rested_on (seat t) (seat u) (goes t u k x) (rested_all Step seat goes s t ks turns r)

@@ -1,4 +1,4 @@
--- A place that rests at the users does so behind each of its sessions, and behind all of them nobody has the keeper.
+-- A place that rests at the users does so after each of its sessions, and after all of them nobody has the keeper.
 use Rattle.std.proofs.Common.{◌≡◌, ◌≢◌, ◌<◌, ℕ, List, [], ◌∷◌, ◌++◌, Option, Some, None, Box, refl, sym, ◌∙◌, ap, subst}
 use Rattle.std.specs.declared.alloc.Global.{Global}
 use base.Stored.{Gv}

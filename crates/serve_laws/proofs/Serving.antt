@@ -1,4 +1,4 @@
--- One place's callers, one behind the other.
+-- One place's callers, one after the other.
 use Rattle.std.proofs.Common.{◌≡◌, ◌≢◌, ℕ, List, [], ◌∷◌, ◌++◌, refl, sym, ◌∙◌, ap, subst, append-nil, append_assoc, inl, inr}
 use Rattle.std.proofs.lemmas.List.{map-append}
 use base.Stored.{Gv}
@@ -47,7 +47,7 @@ Sees seen h = (ms : List UserMark) × (seen ≡ user_codes ms) × (entries_of ms
 sees_once : (seen : List Gv) (h g : List UserEntry) → Sees seen h → Sees seen g → h ≡ g
 sees_once seen h g first then = sym first.2 ∙ ap entries_of (same_marks seen first.0 then.0 first.1 then.1) ∙ then.2
 
--- where the sessions of a place stand: the history so far, behind what the opening counts as, and the newest session
+-- where the sessions of a place stand: the history so far, after what the opening counts as, and the newest session
 record Came (l : Language Request Moment) (o : Opening) (own : ℕ) (told : Type 0) (k j : LinkState) (seen : List Gv) (ss : List (Session Request Moment)) (us : UsersOpening) (users_seen : List Gv) (hs : List (Hearing Request)) : Type 0 where
   pub history : List Entry
   pub session : Session Request Moment

@@ -18,7 +18,7 @@ use Rattle.xc_core.specs.States.{Opening}
 use Rattle.core_laws.specs.Mirrorings.{AreCommands, Command, IsMirroredSince, StandsForFirst}
 
 -- Each file that a crash may leave of the journal stands for these changes, or for these and the one in doubt. So does that of a standby which keeps up
--- with the journal, where no call came behind the last sync that was answered while Joined; and it isn't strange to the registers.
+-- with the journal, where no call came after the last sync that was answered while Joined; and it isn't strange to the registers.
 pub record StandsForChanges {D : Type 0} (told : Type 0) (state : D → DiskState) (o : Opening) (h : List Entry) (p : Provisioner D) : Type 0 where
   pub past : Past
   pub reckoned : ReckonsTo o.first (changes_of h) past

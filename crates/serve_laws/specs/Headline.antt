@@ -100,7 +100,7 @@ module _ (w : World) where
   Sessions = ℕ → List (Session Request Moment)
 
   module _ (s : Contents) (o : Opening) where
-    -- the plain element on what was opened, behind this history, with these sessions of each place
+    -- the plain element on what was opened, after this history, with these sessions of each place
     abbrev pub behind : List Entry → Sessions → Element Request Moment
     behind h sessions = element o.first.fold.table (began o.due ++ h) sessions
 

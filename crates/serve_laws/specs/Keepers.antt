@@ -17,7 +17,7 @@ pub record IsKeeperHome {D : Type 0} (told : Type 0) (state : D → DiskState) (
   pub is : keeper ≡ Some users
   pub stands : StandsFor told state o users.value (entries_of left)
   -- Whatever commands on users come from here on, and whenever the primary stops: by its name a standby's copy of their journal is no file, or one that stands for
-  -- the users behind these entries and the first of the commands, and maybe for one change more. All commands that ended by the last sync that was answered
+  -- the users after these entries and the first of the commands, and maybe for one change more. All commands that ended by the last sync that was answered
   -- while Joined are among the first.
   pub standby : told → (cs : List (Command D)) (t : UserState D) → AreCommands told state o users.value.journal.0 (entries_of left) cs t
       → (pair : Pair) → (0 < pair.standby.synced → KeepsUp pair) → (m : IsMirroredSince state users.value.journal.0 cs pair.primary)

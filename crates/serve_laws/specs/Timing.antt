@@ -18,7 +18,7 @@ pub record MomentAt : Type 1 where
   pub seen : List Gv
 
 module _ (m : MomentAt) where
-  -- By some order of turns over a beginning of the history then, the plain element had said this to the newest session of the place, which came behind these.
+  -- By some order of turns over a beginning of the history then, the plain element had said this to the newest session of the place, which came after these.
   pub record WasSaid (older : List (Session Request Moment)) (out : List ℕ) : Type 0 where
     pub earlier : List Entry
     pub later : List Entry
@@ -40,8 +40,8 @@ module _ (m : MomentAt) where
     pub more : List Gv
     pub sees_on : stamp.seat.seen ≡ m.seen ++ next ∷ more
 
-  -- Of all that the link of a session was written, which came behind these, no more than a first part was written by then: what the plain element had said.
-  -- Each byte of the rest was written behind a turn of the place that came after.
+  -- Of all that the link of a session was written, which came after these, no more than a first part was written by then: what the plain element had said.
+  -- Each byte of the rest was written after a turn of the place that came later.
   pub record WasWrittenThen (older : List (Session Request Moment)) (k j : LinkState) : Type 0 where
     pub by_then : List ℕ
     pub since : List ℕ

@@ -1,4 +1,4 @@
--- How often a session's gate was asked behind a work's writes, and for which entries.
+-- How often a session's gate was asked after a work's writes, and for which entries.
 use Rattle.std.specs.Prelude.{◌≤◌, ◌==◌, ◌+◌, if◌then◌else◌, ℕ, List, [], ◌∷◌}
 use Rattle.dxc_outside.specs.declared.gate.GatePlace.{GatePlace}
 use Rattle.dxc_outside.specs.declared.gate.GatePlace.TheVariants.{Finish}
@@ -24,7 +24,7 @@ unfoldable pub count_own : (Outcome → ℕ) → ℕ → List Entry → ℕ
 count_own f place [] = 0
 count_own f place (e ∷ es) = (if e.place == place then f e.outcome else 0) + count_own f place es
 
--- how often the gate was asked behind the writes of a work
+-- how often the gate was asked after the writes of a work
 unfoldable pub ends_in : List GatePlace → ℕ
 ends_in [] = 0
 ends_in (Finish ∷ ps) = 1 + ends_in ps

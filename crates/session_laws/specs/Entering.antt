@@ -26,14 +26,14 @@ pub record CanBeEntered (t : Board) (c : Conn) : Type 0 where
   pub equipped : names_unequipped t (Enter c) ≡ false
   pub free : needs_used_side t (Enter c) ≡ false
 
--- it can be made behind a legal history, whose changes come to this
+-- it can be made after a legal history, whose changes come to this
 pub record CanBeEnteredBehind (o : Opening) (h : List Entry) (b : Past) (c : Conn) : Type 0 where
   pub placed : IsPlaced o.first.fold.table o.first.fold.colours
   pub legal : IsLegal (rules_of o) h
   pub reckoned : ReckonsTo o.first (changes_of h) b
   pub free : CanBeEntered (table_after o.first.fold.table h) c
 
--- while the middle `away` is out of service, some choice is valid for each of these legs at its turn, behind the planned joins of those before it
+-- while the middle `away` is out of service, some choice is valid for each of these legs at its turn, after the planned joins of those before it
 abbrev pub HaveChoices : ℕ → Colouring → List Leg → Type 0
 HaveChoices away c [] = Unit {0}
 HaveChoices away c (l ∷ ls) = ((k : ℕ) × (h : ChainChoice) × IsValidChoiceWhileOut c away l k h) × ((o : LegOp) → PlansWhileOut c away l o → HaveChoices away (after_op o c) ls)

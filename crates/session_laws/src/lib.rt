@@ -13,7 +13,7 @@ pub fn units_are_alone()
 {}
 
 /// What a run wrote is what the plain session writes whose table is that of the history at each entry of the place: each unit's response and,
-/// where they are allowed, the reports behind it and at each Quiet, with the next moments.
+/// where they are allowed, the reports after it and at each Quiet, with the next moments.
 pub fn runs_are_played()
     ensures { ArePlayed }
 {}
@@ -47,7 +47,7 @@ pub fn entries_are_completed()
     ensures denied { EntriesWantMiddles }
 {}
 
-/// A session's gate was asked behind a work's writes for each entry of its own that took effect, and for no other but those that a stop cut.
+/// A session's gate was asked after a work's writes for each entry of its own that took effect, and for no other but those that a stop cut.
 pub fn effects_are_asked()
     ensures { EffectsAreAsked }
 {}

@@ -7,7 +7,7 @@ use Rattle.hex.proofs.HexLemmas.{decode_of-ok, decode_sized-ok, decode_sized-twi
 use Rattle.toml.specs.Data.{Data, Members, as_str, get_member}
 use Rattle.shelf_file.specs.Contents.{AreUsers, UserEntry}
 use Rattle.shelf_file.specs.Keys.{checked, digest_of, is_uid, uid_of, upper}
-use Rattle.shelf_file.specs.Shelves.{IsDescribed, AreDescribed}
+use Rattle.shelf_file.specs.Shelves.{AreDescribed}
 
 -- the text of a uid in upper case
 abbrev IsUpper : List ℕ → Type 0

@@ -1,6 +1,5 @@
 -- The shelf of a trial keeps what every shelf does.
-use Rattle.std.proofs.Common.{◌≡◌, ◌<◌, ◌≤◌, ◌^◌, arith, ℕ, List, [], ◌∷◌, codes, length, refl, subst, sym}
-use Rattle.std.specs.List.{AllByRecursion}
+use Rattle.std.proofs.Common.{◌≡◌, ◌<◌, ◌^◌, arith, ℕ, List, [], ◌∷◌, codes, refl, subst, sym}
 use Rattle.dxc_num.specs.Dimensions.{Dimensions}
 use Rattle.shelf_file.specs.declared.idle.IdleLimits.{IdleLimits}
 use Rattle.shelf_file.specs.Contents.{UserEntry}

@@ -1,5 +1,5 @@
 -- The shelf of a trial, which no file describes.
-use Rattle.std.specs.Prelude.{◌≡◌, ◌<◌, ℕ, true, List, [], ◌∷◌, codes, replicate}
+use Rattle.std.specs.Prelude.{◌≡◌, ◌<◌, ℕ, true, [], ◌∷◌, codes, replicate}
 use Rattle.dxc_num.specs.Dimensions.{Dimensions}
 use Rattle.dxc_model.specs.declared.user.Class.TheVariants.{S}
 use Rattle.dxc_model.specs.Equipment.{has_bit}

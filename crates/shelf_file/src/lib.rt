@@ -18,3 +18,4 @@ pub use idle::IdleLimits;
 pub use reading::shelf_of;
 pub use shelf::Shelf;
 pub use trial::trial_shelf;
+pub use user::is_uid;

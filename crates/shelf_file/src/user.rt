@@ -21,7 +21,8 @@ pub struct User {
     pub digest: [u8; 32],
 }
 
-fn is_uid(text: &[u8]) -> bool
+/// Whether a text is a user's name: 1 to 10 ASCII letters and digits, the first a letter.
+pub fn is_uid(text: &[u8]) -> bool
     ensures { result ≡ reads_as_uid text.now }
 {
     match text {

@@ -25,13 +25,13 @@ same : {A : Type 0} {x y : A} → Some x ≡ Some y → x ≡ y
 same is = cc
 
 module _ {D : Type 0} (state : D → DiskState) where
-  -- what might have been left before the calls might have been left behind them
+  -- what might have been left before the calls might have been left after them
   stays : (d : D) (cs : List (Call D)) → AreCalls state d cs → (t : ℕ) (file : List ℕ) → t ≤ (state d).moment → (state d).left_since t file → (state (last_of d cs)).left_since t file
   stays d [] are t file le left = left
   stays d (looks e ∷ cs) are t file le left = stays e cs are.1 t file (omega (arith, le, are.0.time.later)) (are.0.time.keeps t file le left)
   stays d (moves e ∷ cs) are t file le left = stays e cs are.1 t file (omega (arith, le, are.0.later)) (are.0.keeps t file le left)
 
-  -- behind the calls, what is read goes on from where they ended
+  -- after the calls, what is read goes on from where they ended
   pub read_on : (d : D) (cs : List (Call D)) → AreCalls state d cs → (files : List (List ℕ)) (m n : ℕ) → m ≡ length (read_in state cs) + n → slice_get ((state d).reads_as ∷ (read_in state cs ++ files)) m ≡ slice_get ((state (last_of d cs)).reads_as ∷ files) n
   read_on d [] are files m n is = ap (λ (k : ℕ). slice_get ((state d).reads_as ∷ files) k) (let e : m ≡ n = omega (arith, is) in e)
   read_on d (looks e ∷ cs) are files m n is = ap (λ (f : List ℕ). slice_get (f ∷ (read_in state cs ++ files)) m) (sym are.0.same) ∙ read_on e cs are.1 files m n is
@@ -102,7 +102,7 @@ lost_taken : (numbers : List ℕ) (q : Primary) → (takes_all q numbers).lost �
 lost_taken [] q = refl
 lost_taken (n ∷ numbers) q = lost_taken numbers (takes q n) ∙ lost_as (is_awaited q n) q n
 
--- so it is behind a sync where the mirror is Joined
+-- so it is after a sync where the mirror is Joined
 sync_answered : (lost : Option Lost) (number : ℕ) (numbers : List ℕ) (p : Primary) → IsOn lost number (lost_by lost (takes_all (syncing p) numbers)) → lost ≡ None → (lost_by lost (takes_all (syncing p) numbers)).answered ≡ length (lost_by lost (takes_all (syncing p) numbers)).before
 sync_answered (Some why) number numbers p on none = absurd (let e : Some why ≡ None = none in cc)
 sync_answered None number numbers p on none =

@@ -98,7 +98,7 @@ none_of : {A : Type 0} (P : Type 0) (o : Option A) (x : A) → o ≡ Some x → 
 none_of P None x is = cc
 none_of P (Some y) x is = tt
 
--- where no Have came the line is lost; its link stands behind the hanging up as before
+-- where no Have came the line is lost; its link stands after the hanging up as before
 pub syncs_vain : (told : Type 0) (old mid heard new : LinkState) (n m k : ℕ) (kept part rest message : List ℕ) (before sent found lost : Option Lost) (why : Lost) → kept ≡ part → m ≡ n + 1 → message ≡ spelled (n + 1) sync → is_some sent ≡ false → SendsOne told old mid sent message
     → found ≡ Some why → IfSome found (λ why. WaitsInVain told mid heard kept m why) → ((found ≡ Some End) ↔ IsTrue heard.ended) → heard.reads ≤ mid.reads + patience → (found ≢ Some Link → heard.read_faults ≡ mid.read_faults) → heard.write_faults ≡ mid.write_faults
     → new ≡ heard → k ≡ m → lost ≡ Some why → Syncs told (line old n part before) (line new k rest lost)
@@ -108,7 +108,7 @@ syncs_vain told old mid heard new n m k kept part rest message before sent found
     (subst (λ (o : Option Lost). Syncs told (line old n part before) (line heard m rest o)) (vained ∙ sym as_found)
     (syncs_whole told old mid heard n m kept part rest message before sent found same number is here sends (none_of (WaitsFor told mid heard kept rest m) found why vained) vain end few no_fault writes)))
 
--- a message that was cut short loses the line, whose link stands behind the hanging up as before
+-- a message that was cut short loses the line, whose link stands after the hanging up as before
 pub cut_short : (told : Type 0) (old mid new : LinkState) (lost : Option Lost) (message : List ℕ) → IsSent told old mid Cut message → new ≡ mid → lost ≡ Some Link → SendsOne told old new lost message
 cut_short told old mid new lost message sent same is = inr (is, subst (λ (k : LinkState). IsSent told old k Cut message) (sym same) sent)
 

@@ -2,7 +2,7 @@
 use Rattle.std.proofs.Common.{◌≡◌, inl, inr, ⊎_elim, ℕ, ◌+◌, ◌^◌, ◌≤◌, ◌<◌, max, Bool, true, false, ◌&&◌, List, [], ◌∷◌, ◌++◌, length, drop, append_assoc, Option, Some, None, IsSome, Result, Ok, Err, nat_le, if◌then◌else◌, refl, sym, ◌∙◌, ap, arith, length-append}
 use Rattle.std.proofs.lemmas.Bool.{le-leb}
 use Rattle.std.proofs.lemmas.List.{append-nil}
-use Rattle.dxc_disk.specs.Disks.{DiskState, Writes, Looks}
+use Rattle.dxc_disk.specs.Disks.{DiskState, Writes, Looks, bytes_at}
 use Rattle.dxc_causes.specs.Causes.{Rose}
 use Rattle.dxc_outside.specs.Links.{LinkState}
 use Rattle.standby_link.specs.Messages.{spelled_all, numbered}
@@ -165,7 +165,7 @@ module _ (told link_told : Type 0) (d d' : DiskState) (k k' : LinkState) (n n' :
       went told link_told d' (line k n part None) k' n' rest (syncing p) (λ t. same t ∙ moved.content t) here.0 (omega (arith, here.1, sent_length p.lost p.acts (sync ∷ []) here.0)) lost' (syncs refl)
 
 module _ (told link_told : Type 0) (d d' : DiskState) (l m : LineState) where
-  pub steps_by_write : {T E : Type 0} → (at : ℕ) (from : List ℕ) (result : Result T E) → (told → Writes d d' result at from) → TellsWrite link_told l m at from result → StepsByWrite told (mirrored d l) (mirrored d' m) at from result
+  pub steps_by_write : {T E : Type 0} → (at : ℕ) (from : List ℕ) (result : Result T E) → (told → Writes d d' result at from) → TellsWrite link_told l m (bytes_at at from) result → StepsByWrite told (mirrored d l) (mirrored d' m) (bytes_at at from) result
   steps_by_write at from (Ok x) writes tells p moved small =
       write_moved told link_told d d' l.link m.link l.number m.number l.lost m.lost at from p (λ t. (writes t).ok) moved (λ here. tells.sends here small) (λ some. (tells.gone some).0)
   steps_by_write at from (Err x) writes tells p moved small = failed_moved told d' l.lost m.lost m.number p moved.on.idle (λ here. (tells.failing here).0) (λ some. (tells.gone some).0)

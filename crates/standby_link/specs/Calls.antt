@@ -1,4 +1,4 @@
--- Calls on a disk one behind the other, and the moments that they are of a standby's primary.
+-- Calls on a disk one after the other, and the moments that they are of a standby's primary.
 use Rattle.std.specs.Prelude.{◌≡◌, ℕ, ◌+◌, ◌^◌, ◌<◌, List, [], ◌∷◌, ◌++◌, length, Some, None, slice_get, Result, MatchResult}
 use Rattle.dxc_disk.specs.declared.disk.DiskFault.{DiskFault}
 use Rattle.dxc_disk.specs.Disks.{DiskState, Elapses, IsLength, IsRead, IsSync, IsWrite, Looks, bytes_at}
@@ -9,7 +9,7 @@ use Rattle.standby_link.specs.Lines.{line_at}
 use Rattle.standby_link.specs.Mirrors.{Primary, called, failed, joining, moments, syncing}
 use Rattle.standby_link.specs.Moves.{IsMoved, IsSmall, MirrorState, StepsBySync, StepsByWrite, TookHaves, first_line, lost_by, mirrored, takes_all}
 
--- a call on a disk, with the disk behind it
+-- a call on a disk, with the disk after it
 pub data Call (D : Type 0) : Type 0 where
   -- the length, or a read: a mirror tells nothing of it
   looks : D → Call D
@@ -20,7 +20,7 @@ abbrev pub behind : {D : Type 0} → Call D → D
 behind (looks d) = d
 behind (moves d) = d
 
--- the disk behind all of them
+-- the disk after all of them
 abbrev pub last_of : {D : Type 0} → D → List (Call D) → D
 last_of d [] = d
 last_of d (c ∷ cs) = last_of (behind c) cs
@@ -34,7 +34,7 @@ abbrev pub AreCalls : {D : Type 0} → (D → DiskState) → D → List (Call D)
 AreCalls state d [] = Unit {0}
 AreCalls state d (c ∷ cs) = IsCall state d c × AreCalls state (behind c) cs
 
--- what the disk read behind each write and each sync
+-- what the disk read after each write and each sync
 abbrev pub read_in : {D : Type 0} → (D → DiskState) → List (Call D) → List (List ℕ)
 read_in state [] = []
 read_in state (looks d ∷ cs) = read_in state cs
@@ -70,13 +70,13 @@ pub record HasSynced (told : Type 0) (t : MirrorState) (p q : Primary) : Type 0 
   pub has_moment : HasMoment told t p q
   pub answered : t.line.lost ≡ None → q.answered ≡ length q.before
 
--- What a mirrored disk's calls say makes each write and each sync a moment of its primary, behind the joining's.
+-- What a mirrored disk's calls say makes each write and each sync a moment of its primary, after the joining's.
 pub record CallsAreMoments {D K : Type 0} (told link_told : Type 0) (state : D → DiskState) (link : K → LinkState) : Type 0 where
   pub join : told → (d e : D) (k : K) (l : Line K)
       → (h : TookHaves told link_told (first_line (link k)) (mirrored (state e) (line_at link l)) (joining (state d).reads_as))
       → moments (lost_by l.lost (takes_all (joining (state d).reads_as) h.numbers)) ≡ (state e).reads_as ∷ []
   pub write : told → (d e : D) (l m : Line K) (at : ℕ) (from : List ℕ) (result : Result (Unit {0}) DiskFault) (p : Primary) → IsMoved told (mirrored (state d) (line_at link l)) p → IsSmall l.number at from
-      → StepsByWrite told (mirrored (state d) (line_at link l)) (mirrored (state e) (line_at link m)) at from result
+      → StepsByWrite told (mirrored (state d) (line_at link l)) (mirrored (state e) (line_at link m)) (bytes_at at from) result
       → MatchResult result
       (λ _. HasMoment told (mirrored (state e) (line_at link m)) p (lost_by m.lost (called p (acted p.file (put at from)) (pieces at from))))
       (λ _. HasMoment told (mirrored (state e) (line_at link m)) p (failed p (state e).reads_as))

@@ -2,7 +2,7 @@
 use Rattle.std.specs.Prelude.{◌≡◌, ℕ, ◌≤◌, ◌<◌, List, length, take, Result}
 use Rattle.dxc_causes.specs.Causes.{last}
 use Rattle.dxc_disk.specs.declared.disk.Disk.{Ghosts as DiskOf}
-use Rattle.dxc_disk.specs.Disks.{DiskState, IsRead, IsWrite}
+use Rattle.dxc_disk.specs.Disks.{DiskState, IsRead, IsWrite, Piece}
 
 -- A disk, the front of its file as far as calls showed it, and a length that the file doesn't pass, if any is known.
 pub record Known (D : Type 0) : Type 0 where
@@ -21,10 +21,10 @@ pub record IsWhole {D : Type 0} (k : Known D) : Type 0 where
   pub told : k.most < last
   pub all : k.most ≤ length k.front
 
--- a read and a write of the disk, by their place and bytes
+-- a read and a write of the disk
 module _ {D T E : Type 0} (d : DiskOf D) (j k : Known D) (result : Result T E) where
-  abbrev pub IsReadBy : ℕ × List ℕ → Type 0
-  IsReadBy x = IsRead d.told (d.state j.disk) (d.state k.disk) result x.0 x.1
+  abbrev pub IsReadBy : Piece → Type 0
+  IsReadBy into = IsRead d.told (d.state j.disk) (d.state k.disk) result into
 
-  abbrev pub IsWriteBy : ℕ × List ℕ → Type 0
-  IsWriteBy x = IsWrite d.told (d.state j.disk) (d.state k.disk) result x.0 x.1
+  abbrev pub IsWriteBy : Piece → Type 0
+  IsWriteBy from = IsWrite d.told (d.state j.disk) (d.state k.disk) result from

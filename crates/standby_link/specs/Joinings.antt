@@ -25,9 +25,13 @@ module _ {D K : Type 0} (w : Means D K) where
   abbrev pub state : Known D → DiskState
   state k = w.disk.state k.disk
 
-  -- the file was sent over a line, as the disk read it, and a sync, whose Have was waited for
+  -- the file was sent over a link, as the disk read it, and a sync, whose Have was waited for: it is a line now
+  abbrev pub JoinsFrom : (d e : D) (k : K) (m : Line K) → Type 0
+  JoinsFrom d e k m = Joins w.disk.told w.link.told (w.disk.state d) (w.disk.state e) (w.link.state k) (at m)
+
+  -- over that of a new line
   abbrev pub JoinsOver : (d e : D) (l m : Line K) → Type 0
-  JoinsOver d e l m = Joins w.disk.told w.link.told (w.disk.state d) (w.disk.state e) (w.link.state l.link) (at m)
+  JoinsOver d e l m = JoinsFrom d e l.link m
 
   -- A joining of whoever is at the other end of a new line: the file was sent, and a sync, and its Have waited for. The disk isn't called.
   pub record IsJoining (k : Known D) (l m : Line K) : Type 0 where
@@ -49,7 +53,7 @@ module _ {D K : Type 0} (w : Means D K) where
     pub stays : IsSome l.lost → (IsWhole k × StaysLost w.link.told w.link.begun w.link.state l m) ⊎ ((IsWhole k → ⊥) × (m ≡ l))
     pub hung_up : IsHungUp l.lost m.lost (w.link.hung_up l.link) (w.link.hung_up m.link)
 
-  -- what came behind a sync that the disk made
+  -- what came after a sync that the disk made
   abbrev pub TellsOrJoins : Known D → (l m : Line K) → Type 0
   TellsOrJoins k l m = Continues k l m ⊎ Rejoins k l m
 
@@ -60,7 +64,7 @@ module _ {D K : Type 0} (w : Means D K) where
     pub hung_up : IsHungUp l.lost m.lost (w.link.hung_up l.link) (w.link.hung_up m.link)
     pub continues : OnOk result (Continues k l m)
 
-  -- A sync that was made, behind which somebody was joined who stood by anew.
+  -- A sync that was made, after which somebody was joined who stood by anew.
   pub record SyncsAnew (j k : Known D) (l m : Line K) : Type 0 where
     pub looks : w.disk.told → Looks (state j) (state k)
     pub rejoins : Rejoins k l m

@@ -1,7 +1,7 @@
 -- What a mirrored disk's calls are of a primary and its standby.
 use Rattle.std.specs.Prelude.{◌≡◌, ◌≢◌, ◌⊎◌, ℕ, ◌+◌, ◌^◌, ◌<◌, true, false, List, [], ◌∷◌, ◌++◌, length, Option, Some, None, IsSome, Result, MatchResult, OnOk, OnErr}
 use Rattle.dxc_causes.specs.Causes.{Rose}
-use Rattle.dxc_disk.specs.Disks.{DiskState}
+use Rattle.dxc_disk.specs.Disks.{DiskState, Piece}
 use Rattle.dxc_outside.specs.Items.{Item as LinkItem}
 use Rattle.dxc_outside.specs.Links.{LinkState, Wrote}
 use Rattle.dxc_outside.specs.declared.link.Lost.{Lost}
@@ -52,9 +52,9 @@ abbrev pub IsSmall : ℕ → ℕ → List ℕ → Type 0
 IsSmall number at from = (number + length (pieces at from) < 2 ^ 64) × (at + length from < 2 ^ 64)
 
 -- what a line does for a write that was made, or failed
-pub record TellsWrite {T E : Type 0} (told : Type 0) (l m : LineState) (at : ℕ) (from : List ℕ) (result : Result T E) : Type 0 where
+pub record TellsWrite {T E : Type 0} (told : Type 0) (l m : LineState) (from : Piece) (result : Result T E) : Type 0 where
   pub gone : IsSome l.lost → (m.lost ≡ l.lost) × (m.link ≡ l.link)
-  pub sends : l.lost ≡ None → IsSmall l.number at from → OnOk result (Sends told l m (pieces at from))
+  pub sends : l.lost ≡ None → IsSmall l.number from.at from.bytes → OnOk result (Sends told l m (pieces from.at from.bytes))
   -- nothing was read
   pub held : m.held ≡ l.held
   pub failing : l.lost ≡ None → OnErr result ((m.lost ≡ Some Disk) × (m.link ≡ l.link))
@@ -88,9 +88,9 @@ abbrev pub IsMoved : (told : Type 0) → MirrorState → Primary → Type 0
 IsMoved told s p = Moved told s.disk s.line.lost s.line.number p
 
 -- a write is a step of the primary: the disk's, with the loss of the line where it came in this call
-abbrev pub StepsByWrite : {T E : Type 0} → (told : Type 0) (s t : MirrorState) (at : ℕ) (from : List ℕ) → Result T E → Type 0
-StepsByWrite told s t at from result = (p : Primary) → IsMoved told s p → IsSmall s.line.number at from → MatchResult result
-    (λ _. IsMoved told t (lost_by t.line.lost (called p (acted p.file (write at from)) (pieces at from))))
+abbrev pub StepsByWrite : {T E : Type 0} → (told : Type 0) (s t : MirrorState) (from : Piece) → Result T E → Type 0
+StepsByWrite told s t from result = (p : Primary) → IsMoved told s p → IsSmall s.line.number from.at from.bytes → MatchResult result
+    (λ _. IsMoved told t (lost_by t.line.lost (called p (acted p.file (write from.at from.bytes)) (pieces from.at from.bytes))))
     (λ _. IsMoved told t (failed p t.disk.reads_as))
 
 -- the Haves that came over the link in a call

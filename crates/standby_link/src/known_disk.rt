@@ -1,5 +1,5 @@
 ghost use Rattle.std.specs.Prelude.{◌≡◌, ◌⊎◌, ◌+◌, ◌≤◌, ◌++◌, true, false, length, take, OnErr, OnOk};
-ghost use Rattle.dxc_disk.specs.Disks.{IsLength, IsSync};
+ghost use Rattle.dxc_disk.specs.Disks.{IsLength, IsSync, bytes_at};
 ghost use Rattle.dxc_disk.specs.Replay.{overwritten};
 ghost use Rattle.standby_link.specs.Fronts.{IsReadBy, IsWhole, IsWriteBy, Known};
 
@@ -81,7 +81,7 @@ impl<D: Disk> Disk for KnownDisk<D> {
 
     fn read(&mut self, at: u64, into: &mut [u8]) -> Result<(), DiskFault>
         requires { D.told → at + length into.old ≤ length (D.state self.old.disk).reads_as }
-        ensures read { IsReadBy D.Disk self.old self.new result (at, into.new) }
+        ensures read { IsReadBy D.Disk self.old self.new result (bytes_at at into.new) }
         ensures front { length self.old.front ≤ length self.new.front }
     {
         self.disk.read(at, into)?;
@@ -94,7 +94,7 @@ impl<D: Disk> Disk for KnownDisk<D> {
     fn write_at(&mut self, at: u64, from: &[u8]) -> Result<(), DiskFault>
         requires within { D.told → at ≤ length (D.state self.old.disk).reads_as }
         requires short { length from.now ≤ 4096 }
-        ensures write { IsWriteBy D.Disk self.old self.new result (at, from.now) }
+        ensures write { IsWriteBy D.Disk self.old self.new result (bytes_at at from.now) }
         ensures front { OnOk result (length self.old.front ≤ length self.new.front) }
         ensures cut { OnErr result (self.new.front ≡ take at self.old.front) }
     {

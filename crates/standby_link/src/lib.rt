@@ -5,6 +5,7 @@ mod ear;
 mod end;
 mod heard;
 mod in_hand;
+mod joins;
 mod known_disk;
 pub mod laws;
 mod line;

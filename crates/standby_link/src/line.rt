@@ -4,11 +4,9 @@ ghost use Rattle.standby_link.specs.Acts.{write, sync, pieces};
 ghost use Rattle.standby_link.specs.Lines.{line_at, Sends, SendsOne, Syncs, IsHungUp, BeginsAnew, StaysLost};
 
 use crate::ear::Ear;
-use crate::spell::{spell_sync, spell_write};
+use crate::spell::{ITEM, spell_sync, spell_write};
+use dxc_disk::MOST_WRITTEN;
 use dxc_outside::{Got, Link, Lost, Sent, write_all};
-
-/// The most bytes that one item carries.
-pub(crate) const MOST: usize = 4096;
 
 /// A primary's end of the link to its standby. Once it is lost it is hung up, and nothing more is sent until somebody stands by anew.
 #[derive(Drop)]
@@ -51,7 +49,7 @@ impl<K: Link> Line<K> {
         }
         let mut sent = 0;
         while sent < from.len() {
-            let end = from.len().min(sent + MOST);
+            let end = from.len().min(sent + MOST_WRITTEN);
             self.send_write(place.wrapping_add(sent as u64), &from[sent..end]);
             if self.lost.is_some() {
                 return;
@@ -70,7 +68,7 @@ impl<K: Link> Line<K> {
         ensures hung_up { IsHungUp self.old.lost self.new.lost (K.hung_up self.old.link)
             (K.hung_up self.new.link) }
     {
-        let mut message = [0; 4115];
+        let mut message = [0; ITEM];
         self.number = self.number.wrapping_add(1);
         let end = spell_write(&mut message, self.number, place, from);
         self.send(&message[..end]);

@@ -1,14 +1,14 @@
-ghost use Rattle.std.specs.Prelude.{◌≡◌, ◌+◌, ◌-◌, ◌^◌, ◌≤◌, ◌<◌, length, None, IsSome, MatchOption, IsSomeAnd};
+ghost use Rattle.std.specs.Prelude.{◌≡◌, ◌+◌, ◌^◌, ◌≤◌, ◌<◌, length, None, MatchOption, IsSomeAnd};
 ghost use Rattle.dxc_disk.specs.Disks.{IsLength, IsRead, IsWrite, IsSync, Looks, Spends, bytes_at};
 ghost use Rattle.standby_link.specs.Lines.{line_at, IsHungUp};
-ghost use Rattle.standby_link.specs.Moves.{Both, mirrored, first_line, TellsWrite, StepsByWrite, SendsFile, Joins, TookHaves, IsSmall, mirror_of};
+ghost use Rattle.standby_link.specs.Moves.{Both, mirrored, first_line, TellsWrite, StepsByWrite, TookHaves, IsSmall, mirror_of};
 ghost use Rattle.standby_link.specs.Acts.{pieces};
-ghost use Rattle.standby_link.specs.Fronts.{IsWhole};
-ghost use Rattle.standby_link.specs.Joinings.{JoinsOver, SyncsOn, TellsOrJoins, over};
+ghost use Rattle.standby_link.specs.Joinings.{JoinsFrom, SyncsOn, TellsOrJoins, over};
 ghost use Rattle.standby_link.specs.Mirrors.{joining};
 
+use crate::joins::{join_anew, join_file};
 use crate::known_disk::KnownDisk;
-use crate::line::{Line, MOST};
+use crate::line::Line;
 use crate::mirror::Mirror;
 use dxc_disk::{Disk, DiskFault};
 use dxc_outside::Link;
@@ -43,8 +43,8 @@ impl<D: Disk, K: Link> MirrorDisk<D, K> {
         ensures faults { (D.state disk).faults ≤ (D.state result.disk.disk).faults }
         ensures room { D.told → Spends (1 + length (D.state disk).reads_as)
             (D.state disk) (D.state result.disk.disk) }
-        ensures line { IsSomeAnd result.line (λ l. Joins D.told K.told (D.state disk)
-            (D.state result.disk.disk) (K.state link) (line_at K.state l)) }
+        ensures line { IsSomeAnd result.line
+            (λ l. JoinsFrom (over D.Disk K.Link) disk result.disk.disk link l) }
         ensures step { D.told → IsSmall 0 0 (D.state disk).reads_as
             → length (pieces 0 (D.state disk).reads_as) + 1 < 2 ^ 64
             → IsSomeAnd result.line (λ l. TookHaves D.told K.told (first_line (K.state link))
@@ -118,10 +118,12 @@ impl<D: Disk, K: Link> Disk for MirrorDisk<D, K> {
         ensures write { IsWrite D.told (D.state self.old.disk.disk)
             (D.state self.new.disk.disk) result (bytes_at at from.now) }
         ensures tells { Both self.old.line self.new.line
-            (λ l m. TellsWrite K.told (line_at K.state l) (line_at K.state m) at from.now result) }
+            (λ l m. TellsWrite K.told (line_at K.state l) (line_at K.state m)
+            (bytes_at at from.now) result) }
         ensures steps { Both self.old.line self.new.line
             (λ l m. StepsByWrite D.told (mirrored (D.state self.old.disk.disk) (line_at K.state l))
-            (mirrored (D.state self.new.disk.disk) (line_at K.state m)) at from.now result) }
+            (mirrored (D.state self.new.disk.disk) (line_at K.state m))
+            (bytes_at at from.now) result) }
         ensures hung_up { Both self.old.line self.new.line
             (λ l m. IsHungUp l.lost m.lost (K.hung_up l.link) (K.hung_up m.link)) }
     {
@@ -130,7 +132,7 @@ impl<D: Disk, K: Link> Disk for MirrorDisk<D, K> {
         written
     }
 
-    /// Where the line is lost and somebody stands by anew, that one is joined behind the sync.
+    /// Where the line is lost and somebody stands by anew, that one is joined after the sync.
     fn sync(&mut self) -> Result<(), DiskFault>
         ensures sync { IsSync D.told (D.state self.old.disk.disk)
             (D.state self.new.disk.disk) result }
@@ -177,60 +179,6 @@ fn tell_sync<D: Disk, K: Link>(disk: &KnownDisk<D>, line: &mut Line<K>)
     }
 }
 
-// Joins somebody who stands by anew, if anybody does.
-fn join_anew<D: Disk, K: Link>(disk: &KnownDisk<D>, line: &mut Line<K>)
-    requires lost { IsSome line.old.lost }
-    requires whole { IsWhole disk.now }
-    requires file { D.told → disk.now.front ≡ (D.state disk.now.disk).reads_as }
-    ensures told { TellsOrJoins (over D.Disk K.Link) disk.now line.old line.new }
-{
-    if line.begins_anew() {
-        join_known(disk, line);
-    }
-}
-
-// Sends the file as it is known, and a sync, over a new line, and waits for its Have.
-fn join_known<D: Disk, K: Link>(disk: &KnownDisk<D>, new_line: &mut Line<K>)
-    requires file { D.told → disk.now.front ≡ (D.state disk.now.disk).reads_as }
-    requires here { new_line.old.lost ≡ None }
-    requires first { new_line.old.number ≡ 0 }
-    requires none_held { new_line.old.ear.held ≡ 0 }
-    ensures line { JoinsOver (over D.Disk K.Link) disk.now.disk disk.now.disk new_line.old
-        new_line.new }
-    ensures step { D.told → IsSmall 0 0 (D.state disk.now.disk).reads_as
-        → length (pieces 0 (D.state disk.now.disk).reads_as) + 1 < 2 ^ 64
-        → TookHaves D.told K.told (first_line (K.state new_line.old.link))
-        (mirrored (D.state disk.now.disk) (line_at K.state new_line.new))
-        (joining (D.state disk.now.disk).reads_as) }
-    ensures hung_up { IsHungUp None new_line.new.lost (K.hung_up new_line.old.link)
-        (K.hung_up new_line.new.link) }
-{
-    new_line.write(0, disk.front());
-    new_line.sync();
-}
-
-// Sends the file and a sync over a new line, and waits for its Have.
-fn join_file<D: Disk, K: Link>(disk: &mut D, line: &mut Line<K>)
-    requires here { line.old.lost ≡ None }
-    requires first { line.old.number ≡ 0 }
-    requires none_held { line.old.ear.held ≡ 0 }
-    ensures looks { D.told → Looks (D.state disk.old) (D.state disk.new) }
-    ensures faults { (D.state disk.old).faults ≤ (D.state disk.new).faults }
-    ensures room { D.told → Spends (1 + length (D.state disk.old).reads_as)
-        (D.state disk.old) (D.state disk.new) }
-    ensures line { JoinsOver (over D.Disk K.Link) disk.old disk.new line.old line.new }
-    ensures step { D.told → IsSmall 0 0 (D.state disk.old).reads_as
-        → length (pieces 0 (D.state disk.old).reads_as) + 1 < 2 ^ 64
-        → TookHaves D.told K.told (first_line (K.state line.old.link))
-        (mirrored (D.state disk.new) (line_at K.state line.new))
-        (joining (D.state disk.old).reads_as) }
-    ensures hung_up { IsHungUp None line.new.lost (K.hung_up line.old.link)
-        (K.hung_up line.new.link) }
-{
-    send_file(disk, line);
-    line.sync();
-}
-
 // Sends what was written, if there is a standby.
 fn tell_write<K: Link>(
     line: &mut Option<Line<K>>,
@@ -239,7 +187,8 @@ fn tell_write<K: Link>(
     from: &[u8],
 )
     ensures tells { Both line.old line.new
-        (λ l m. TellsWrite K.told (line_at K.state l) (line_at K.state m) at from.now written) }
+        (λ l m. TellsWrite K.told (line_at K.state l) (line_at K.state m)
+        (bytes_at at from.now) written) }
     ensures hung_up { Both line.old line.new
         (λ l m. IsHungUp l.lost m.lost (K.hung_up l.link) (K.hung_up m.link)) }
 {
@@ -247,59 +196,5 @@ fn tell_write<K: Link>(
     match written {
         Ok(()) => line.write(at, from),
         Err(_) => line.end(),
-    }
-}
-
-// Sends the file in Writes of 4,096 bytes, the last shorter. Where the line is lost it is read on, so that it is known.
-fn send_file<D: Disk, K: Link>(disk: &mut D, line: &mut Line<K>)
-    requires here { line.old.lost ≡ None }
-    requires first { line.old.number ≡ 0 }
-    ensures looks { D.told → Looks (D.state disk.old) (D.state disk.new) }
-    ensures faults { (D.state disk.old).faults ≤ (D.state disk.new).faults }
-    ensures room { D.told → Spends (1 + length (D.state disk.old).reads_as)
-        (D.state disk.old) (D.state disk.new) }
-    ensures ear { line.new.ear ≡ line.old.ear }
-    ensures hung_up { IsHungUp line.old.lost line.new.lost (K.hung_up line.old.link)
-        (K.hung_up line.new.link) }
-    ensures sends { D.told → IsSmall 0 0 (D.state disk.old).reads_as → SendsFile K.told
-        (D.state disk.old) (D.state disk.new) (K.state line.old.link) (line_at K.state line.new) }
-{
-    let Ok(length) = disk.length() else {
-        line.end();
-        return;
-    };
-    let mut piece = [0; MOST];
-    let mut at = 0;
-    while at < length {
-        let count = (length - at).min(MOST as u64) as usize;
-        if disk.read(at, &mut piece[..count]).is_err() {
-            line.end();
-            return;
-        }
-        line.send_write(at, &piece[..count]);
-        at += count as u64;
-        if line.lost.is_some() {
-            read_on(disk, at, length);
-            return;
-        }
-    }
-}
-
-// Reads the file from that place on.
-fn read_on<D: Disk>(disk: &mut D, from: u64, end: u64)
-    requires within { from ≤ end }
-    requires size { D.told → end ≡ length (D.state disk.old).reads_as }
-    ensures looks { D.told → Looks (D.state disk.old) (D.state disk.new) }
-    ensures faults { (D.state disk.old).faults ≤ (D.state disk.new).faults }
-    ensures room { Spends (end - from) (D.state disk.old) (D.state disk.new) }
-{
-    let mut piece = [0; MOST];
-    let mut at = from;
-    while at < end {
-        let count = (end - at).min(MOST as u64) as usize;
-        if disk.read(at, &mut piece[..count]).is_err() {
-            return;
-        }
-        at += count as u64;
     }
 }

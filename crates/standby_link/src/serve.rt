@@ -1,25 +1,22 @@
 ghost use Rattle.std.specs.Prelude.{◌≡◌, ◌≢◌, ◌⊎◌, ◌↔◌, ◌+◌, ◌-◌, ◌^◌, ◌≤◌, ℕ, min, false, [], length, take, IfOk, IfErr, IsTrue};
 ghost use Rattle.dxc_causes.specs.Causes.{HasCause, Rose, Counted};
-ghost use Rattle.dxc_outside.specs.Links.{LinkState, IsSoundLink};
+ghost use Rattle.dxc_outside.specs.Links.{IsSoundLink};
 ghost use Rattle.standby_link.specs.Readings.{size};
-ghost use Rattle.standby_link.specs.Serves.{Goes, Ran, Served, IsPrompt, IsSpentBy, Unbegun, SendsHave, IsUnfinished, IsOfItem, IsOfTurn, OnlyWrites};
+ghost use Rattle.standby_link.specs.Serves.{IsOfItem, IsOfTurn, IsPrompt, IsUnfinished, OnlyWrites, SendsHave, ServesAny, ServesEmpty, TakesTurn, both_at, turn_at};
 
 use crate::end::StandbyEnd;
 use crate::in_hand::{InHand, judge, size_of_item};
 use crate::made::Made;
+use crate::spell::{HEAD, ITEM};
 use byteorder::{BigEndian, ByteOrder};
 use dxc_disk::Disk;
-use dxc_outside::{Got, Link, Sent, write_all};
-
-const READS: u64 = 1 << 32;
+use dxc_outside::{Got, Link, MOST_READS, Sent, write_all};
 
 /// Makes on the disk, which is to be empty, what a primary sends over the link, and answers each Sync with a Have. It ends
 /// as the link ends, by a fault, by bytes that are no item, or after 2^32 reads. It takes no memory.
 pub fn serve_standby<K: Link, D: Disk>(link: &mut K, disk: &mut D) -> StandbyEnd
-    ensures served { Unbegun D.told (K.state link.old) (K.state link.new) (D.state disk.old)
-        (D.state disk.new) result ⊎ Served K.told D.told (D.state disk.old).room
-        ((D.state disk.old).faults + (D.state disk.old).margin) (K.state link.old)
-        (K.state link.new) (D.state disk.new) result }
+    ensures served { ServesAny K.told D.told (both_at (K.state link.old) (D.state disk.old))
+        (both_at (K.state link.new) (D.state disk.new)) result }
     ensures prompt { IsPrompt K.begun K.told (K.state link.old) (K.state link.new) }
     ensures not_empty { D.told → (D.state disk.old).reads_as ≢ []
         → (result ≡ StandbyEnd.NotEmpty) ⊎ (result ≡ StandbyEnd.DiskFault) }
@@ -52,8 +49,8 @@ pub fn serve_standby<K: Link, D: Disk>(link: &mut K, disk: &mut D) -> StandbyEnd
 
 fn serve<K: Link, D: Disk>(link: &mut K, disk: &mut D) -> StandbyEnd
     requires { D.told → (D.state disk.old).reads_as ≡ [] }
-    ensures served { (room sum : ℕ) → IsSpentBy 1 room sum (D.state disk.old) → Served K.told D.told
-        room sum (K.state link.old) (K.state link.new) (D.state disk.new) result }
+    ensures served { ServesEmpty K.told D.told (both_at (K.state link.old) (D.state disk.old))
+        (both_at (K.state link.new) (D.state disk.new)) result }
     ensures prompt { IsPrompt K.begun K.told (K.state link.old) (K.state link.new) }
     ensures end { (result ≡ StandbyEnd.End) ↔ IsTrue (K.state link.new).ended }
     ensures read_fault { HasCause (K.state link.old).read_faults (K.state link.new).read_faults
@@ -74,14 +71,14 @@ fn serve<K: Link, D: Disk>(link: &mut K, disk: &mut D) -> StandbyEnd
         → (result ≢ StandbyEnd.ReadFault) × (result ≢ StandbyEnd.WriteFault) }
     ensures hung_up { K.hung_up link.new ≡ K.hung_up link.old }
 {
-    let mut inbox = [0; 4115];
+    let mut inbox = [0; ITEM];
     let mut held = 0;
     let mut made = Made {
         length: 0,
         last: 0,
         synced: 0,
     };
-    for _ in 0..READS {
+    for _ in 0..MOST_READS {
         match turn(&mut inbox, held, &mut made, link, disk) {
             Ok(left) => held = left,
             Err(end) => return end,
@@ -92,7 +89,7 @@ fn serve<K: Link, D: Disk>(link: &mut K, disk: &mut D) -> StandbyEnd
 
 /// One read behind the bytes in hand, and what is to be done for what it brought. Answers how many bytes are in hand then.
 fn turn<K: Link, D: Disk>(
-    inbox: &mut [u8; 4115],
+    inbox: &mut [u8; ITEM],
     held: usize,
     made: &mut Made,
     link: &mut K,
@@ -101,9 +98,9 @@ fn turn<K: Link, D: Disk>(
     requires unfinished { IsUnfinished inbox.old held }
     requires sized { D.told
         → made.old.length ≡ min (length (D.state disk.old).reads_as) (2 ^ 64 - 1) }
-    ensures goes { (before : LinkState) (room sum : ℕ) → Ran K.told D.told room sum before
-        (K.state link.old) (D.state disk.old) made.old (take held inbox.old) → Goes K.told D.told
-        room sum before (K.state link.new) (D.state disk.new) made.new inbox.new result }
+    ensures goes { TakesTurn K.told D.told
+        (turn_at (K.state link.old) (D.state disk.old) made.old (take held inbox.old))
+        (turn_at (K.state link.new) (D.state disk.new) made.new inbox.new) result }
     ensures unfinished { IfOk result (λ left. IsUnfinished inbox.new left) }
     ensures ends { IfErr result IsOfTurn }
     ensures end { (result ≡ Err StandbyEnd.End) ↔ IsTrue (K.state link.new).ended }
@@ -142,10 +139,9 @@ fn take_in<K: Link, D: Disk>(
     requires within { length held.now ≤ size held.now }
     requires sized { D.told
         → made.old.length ≡ min (length (D.state disk.old).reads_as) (2 ^ 64 - 1) }
-    ensures goes { (before : LinkState) (room sum : ℕ)
-        → Ran K.told D.told room sum before (K.state link.old) (D.state disk.old) made.old held.now
-        → Goes K.told D.told room sum before (K.state link.new) (D.state disk.new) made.new held.now
-        result }
+    ensures goes { TakesTurn K.told D.told
+        (turn_at (K.state link.old) (D.state disk.old) made.old held.now)
+        (turn_at (K.state link.new) (D.state disk.new) made.new held.now) result }
     ensures unfinished { IfOk result (λ left. IsUnfinished held.now left) }
     ensures ends { IfErr result IsOfItem }
     ensures link { OnlyWrites (K.state link.old) (K.state link.new) }
@@ -162,7 +158,7 @@ fn take_in<K: Link, D: Disk>(
     match judge(held) {
         InHand::Unfinished => return Ok(held.len()),
         InHand::Bad => return Err(StandbyEnd::BadMessage),
-        InHand::Write { number, place } => made.write(disk, number, place, &held[19..])?,
+        InHand::Write { number, place } => made.write(disk, number, place, &held[HEAD..])?,
         InHand::Sync { number } => {
             made.sync(disk, number)?;
             send_have(link, made.synced)?;

@@ -14,7 +14,7 @@ use Rattle.dxc_model.specs.Steps.{made, with_change}
 use Rattle.dxc_model.specs.Histories.{Rules, changes_of, table_after}
 use Rattle.dxc_model.proofs.Growth.{changes_append, table_more}
 use Rattle.user_admin.specs.declared.op.UserEntry.{UserEntry}
-use Rattle.user_admin.specs.declared.op.UserOp.{UserOp}
+use Rattle.tl1_users.specs.declared.op.UserOp.{UserOp}
 use Rattle.user_admin.specs.declared.op.UserOutcome.{UserOutcome}
 use Rattle.user_admin.specs.declared.op.UserOutcome.TheVariants.{Answered as Told}
 use Rattle.user_admin.specs.Histories.{MayCome, Opening as UsersOpening, users_after}

@@ -18,8 +18,8 @@ use Rattle.tl1_text.specs.Units.{Input, whole, too_long}
 use Rattle.tl1_text.specs.Walk.{blocks_of}
 use Rattle.tl1_command.specs.Meanings.{Asked, acts, cancels, header, allows, inhibits, shows, asks_table, meaning}
 use Rattle.user_admin.specs.declared.op.UserEntry.{UserEntry}
-use Rattle.user_admin.specs.declared.op.UserOp.{UserOp}
-use Rattle.user_admin.specs.Commands.{user_meaning}
+use Rattle.tl1_users.specs.declared.op.UserOp.{UserOp}
+use Rattle.tl1_users.specs.Commands.{user_meaning}
 use Rattle.user_admin.specs.Histories.{Opening as UsersOpening}
 use Rattle.user_admin.specs.Verdicts.{IsChanging}
 use Rattle.xc_core.specs.Seeing.{entry}

@@ -11,7 +11,7 @@ use Rattle.dxc_model.specs.declared.entry.Entry.{Entry}
 use Rattle.dxc_model.specs.Steps.{made, with_change}
 use Rattle.dxc_model.specs.Histories.{IsLegal, Rules, changes_of, table_after}
 use Rattle.dxc_model.proofs.Growth.{changes_append, legal_so_far, table_more}
-use Rattle.user_admin.specs.declared.op.UserOp.{UserOp}
+use Rattle.tl1_users.specs.declared.op.UserOp.{UserOp}
 use Rattle.user_admin.specs.Verdicts.{IsChanging}
 use Rattle.xc_core.specs.Seeing.{entry}
 use Rattle.craft_session.specs.declared.ask.Ask.{Ask}

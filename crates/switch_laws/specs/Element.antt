@@ -9,7 +9,7 @@ use Rattle.dxc_model.specs.Tables.{Board}
 use Rattle.dxc_model.specs.Verdicts.{Grants}
 use Rattle.dxc_model.specs.Operations.{op_of}
 use Rattle.dxc_model.specs.Steps.{IsFault, IsUnderWay, with_change}
-use Rattle.user_admin.specs.declared.op.UserOp.{UserOp}
+use Rattle.tl1_users.specs.declared.op.UserOp.{UserOp}
 use Rattle.user_admin.specs.Verdicts.{IsChanging}
 use Rattle.craft_session.specs.declared.ask.Ask.{Ask}
 use Rattle.craft_session.specs.declared.ask.Ask.TheVariants.{Restarts, Changes}

@@ -14,7 +14,7 @@ use Rattle.dxc_model.specs.Tables.{Board}
 use Rattle.dxc_model.specs.Steps.{IsFault}
 use Rattle.dxc_model.specs.Histories.{IsCut, IsLegal, changes_of, table_after}
 use Rattle.user_admin.specs.declared.op.UserEntry.{UserEntry}
-use Rattle.user_admin.specs.declared.op.UserOp.{UserOp}
+use Rattle.tl1_users.specs.declared.op.UserOp.{UserOp}
 use Rattle.user_admin.specs.Histories.{Opening as UsersOpening}
 use Rattle.user_admin.specs.Verdicts.{IsChanging}
 use Rattle.xc_core.specs.Seeing.{entry}

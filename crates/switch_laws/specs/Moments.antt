@@ -24,7 +24,7 @@ pub record IsBegun {U M : Type 0} (s t : Session U M) : Type 0 where
   pub bytes : List ℕ
   pub written : t.said.bytes ≡ s.said.bytes ++ bytes
 
--- Of what a place had, the newest first: what came before the newest stayed as it was, the newest went on like this, and others came behind it.
+-- Of what a place had, the newest first: what came before the newest stayed as it was, the newest went on like this, and others came after it.
 abbrev pub AreBegun : {S : Type 0} → (S → S → Type 0) → List S → List S → Type 0
 AreBegun goes_on [] ts = Unit {0}
 AreBegun {S} goes_on (s ∷ older) ts = (newer : List S) × (t : S) × (ts ≡ newer ++ t ∷ older) × goes_on s t
@@ -45,7 +45,7 @@ module _ {U M : Type 0} (l : Language U M) (limit : Limit) (excused : Excuse) (s
     pub one_more : made.changes ≡ before.changes ++ c ∷ []
 
   -- Of these turns, the newest first, by which the element came to this: the last moment at which just these changes had been made. The
-  -- table had them, each session had done a beginning of what it did, and the turn behind that moment made the next change.
+  -- table had them, each session had done a beginning of what it did, and the turn after that moment made the next change.
   pub record IsMoment (ts : List (Turn U M)) (end : Element U M) (changes more : List Change) : Type 0 where
     pub later : List (Turn U M)
     pub earlier : List (Turn U M)

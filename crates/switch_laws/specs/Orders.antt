@@ -14,7 +14,7 @@ use Rattle.dxc_model.specs.Tables.{Board}
 use Rattle.dxc_model.specs.Histories.{IsLegal, changes_of}
 use Rattle.shelf_file.specs.Contents.{Contents}
 use Rattle.user_admin.specs.declared.op.UserEntry.{UserEntry}
-use Rattle.user_admin.specs.declared.op.UserOp.{UserOp}
+use Rattle.tl1_users.specs.declared.op.UserOp.{UserOp}
 use Rattle.user_admin.specs.Histories.{IsLegal as AreLegal, Opening as UsersOpening, failures, users_after}
 use Rattle.user_admin.specs.Users.{Users}
 use Rattle.user_admin.specs.Verdicts.{IsChanging}
@@ -158,7 +158,7 @@ module _ {U M : Type 0} (l : Language U M) (limit : Limit) (excused : Excuse) (s
     pub come : ArePlayedAlong earlier (element_with sessions) us
     pub begun : (k : ℕ) → AreBegun IsBegun (sessions k) (then_sessions k)
 
-  -- One order of turns plays these entries of both histories, behind this past on this table, and passes each beginning of theirs.
+  -- One order of turns plays these entries of both histories, after this past on this table, and passes each beginning of theirs.
   pub record ArePlayedInOrder (t : Board) (past : List Entry) (order : List AnyEntry) (h : List Entry) (g : List UserEntry) (sessions : ℕ → List (Session U M)) : Type 0 where
     pub turns : List (Turn U M)
     pub along : ArePlayedAlong turns (element t (past ++ h) sessions) (users_after p g)

@@ -30,7 +30,7 @@ not_fits : (bytes : List ℕ) → 4096 < length bytes + 1 → fits bytes ≡ fal
 not_fits bytes lt = grind (arith, nat_tests, lt)
 
 module _ (front : List ℕ) (short : length front ≤ 64) where
-  -- a line behind the head alone fits
+  -- a line after the head alone fits
   first_fits : (l : List ℕ) → length l ≤ 128 → length (with_line front l) + 1 ≤ 4096
   first_fits l le = omega (arith, length-with_line front l, short, le)
 

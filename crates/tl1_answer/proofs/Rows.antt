@@ -1,4 +1,4 @@
--- Rows and denials behind what a block holds already.
+-- Rows and denials after what a block holds already.
 use Rattle.std.proofs.Common.{◌≡◌, ℕ, List, [], ◌∷◌, ◌++◌, codes, refl, sym, ◌∙◌, ap, append_assoc, append-nil}
 use Rattle.dxc_num.specs.Dimensions.{Dimensions}
 use Rattle.dxc_model.specs.declared.conn.Conn.{Conn}

@@ -14,7 +14,7 @@ header sid m = codes "\r\n\n   " ++ sid ++ codes " "
     ++ two m.year ++ codes "-" ++ two m.month ++ codes "-" ++ two m.day ++ codes " "
     ++ two m.hour ++ codes ":" ++ two m.minute ++ codes ":" ++ two m.second ++ codes "\r\n"
 
--- a blank, date and time, CR LF: what a header has behind the SID
+-- a blank, date and time, CR LF: what a header has after the SID
 abbrev pub stamp_text : Moment → List ℕ
 stamp_text m = codes " "
     ++ two m.year ++ codes "-" ++ two m.month ++ codes "-" ++ two m.day ++ codes " "

@@ -8,7 +8,7 @@ use Rattle.tl1_answer.specs.declared.answer.Code.{Code}
 use Rattle.tl1_answer.specs.Messages.{head, with_line}
 use Rattle.tl1_answer.specs.Blocks.{fits}
 
--- bytes with lines behind them
+-- bytes with lines after them
 abbrev pub with_lines : List ℕ → List (List ℕ) → List ℕ
 with_lines front [] = front
 with_lines front (l ∷ ls) = with_lines (with_line front l) ls
@@ -28,7 +28,7 @@ blocks_from front bytes (l ∷ ls) = if fits (with_line bytes l) then blocks_fro
 abbrev pub blocks_of : List ℕ → List (List ℕ) → List (List ℕ)
 blocks_of front lines = blocks_from front front lines
 
--- blocks one behind another
+-- blocks one after another
 abbrev pub joined : List (List ℕ) → List ℕ
 joined [] = []
 joined (b ∷ bs) = b ++ joined bs

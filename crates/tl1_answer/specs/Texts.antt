@@ -20,7 +20,7 @@ pub record IsOfShape (d : Dimensions) (c : Conn) : Type 0 where
   pub from : IsPort d c.from
   pub to : IsPort d c.to
 
--- what was written before, and then a label behind a colon; nothing more where it is empty
+-- what was written before, and then a label after a colon; nothing more where it is empty
 abbrev pub with_label : List ℕ → List ℕ → List ℕ
 with_label front [] = front
 with_label front (b ∷ bs) = front ++ codes ":" ++ b ∷ bs

@@ -35,7 +35,7 @@ const AMPLE: usize = 80;
 
 /// One block of an answer, of at most 4,096 bytes.
 ///
-/// A response is `begin`, its lines, and `end`. A line that is Cut comes again behind `again`, in the next block.
+/// A response is `begin`, its lines, and `end`. A line that is Cut comes again after `again`, in the next block.
 #[derive(Drop)]
 pub struct Answer {
     block: Text<4096>,

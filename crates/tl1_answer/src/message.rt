@@ -67,7 +67,7 @@ pub fn append_denial(out: &mut Text<4096>, cause: Cause)
     out.append(lines_of(cause));
 }
 
-/// The completion code behind a blank, and the line's end.
+/// The completion code after a blank, and the line's end.
 #[tactic(auto, using(crate::proofs::Headers::completion_is))]
 fn append_completion(out: &mut Text<4096>, code: Code)
     requires { length out.old + 9 ≤ 4096 }

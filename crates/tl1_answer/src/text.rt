@@ -11,7 +11,7 @@ use dxc_aid::{Text, put_port, write_middle, write_module};
 use dxc_model::{Cct, Change, Conn, Label};
 use dxc_num::{Middle, Shape};
 
-/// Clears `out`, and writes a connection's row: `"FROM,TO:CCT"` with the quotes, and `:` with the label behind the CCT
+/// Clears `out`, and writes a connection's row: `"FROM,TO:CCT"` with the quotes, and `:` with the label after the CCT
 /// where it has one.
 pub fn row_text(shape: Shape, conn: &Conn, out: &mut ArrayVec<u8, 128>)
     requires { IsOfShape shape conn.now }
@@ -23,7 +23,7 @@ pub fn row_text(shape: Shape, conn: &Conn, out: &mut ArrayVec<u8, 128>)
     append(out, b"\"");
 }
 
-/// Puts a connection's row behind the block, as a text line.
+/// Puts a connection's row after the block, as a text line.
 #[inline(always)]
 pub fn put_row(shape: Shape, conn: &Conn, out: &mut Text<4096>)
     requires inside { IsOfShape shape conn.now }
@@ -133,7 +133,7 @@ fn put_conn<const N: usize>(shape: Shape, conn: &Conn, out: &mut Text<N>)
     put_label(&conn.label, out);
 }
 
-/// Puts a colon and the label behind the text; nothing where that is empty.
+/// Puts a colon and the label after the text; nothing where that is empty.
 #[inline(always)]
 fn put_label<const N: usize>(label: &Label, out: &mut Text<N>)
     requires room { length out.old + 25 ≤ N }

@@ -76,7 +76,7 @@ fn has_too_many(form: Form, unit: &[u8], blocks: &Blocks, parts: &Parts) -> bool
         || has_further(unit, blocks)
 }
 
-/// A parameter of a payload block behind the first isn't empty.
+/// A parameter of a payload block after the first isn't empty.
 #[inline(always)]
 pub fn has_further(unit: &[u8], blocks: &Blocks) -> bool
     requires short { length unit.now ≤ 2047 }

@@ -1,4 +1,4 @@
-// Looks for the comma behind a value, eight bytes at once.
+// Looks for the comma after a value, eight bytes at once.
 ghost use Rattle.std.specs.Prelude.{◌≡◌, ℕ, ◌+◌, ◌<◌, ◌≤◌, ◌==◌, true, false, length, slice_index};
 ghost use Rattle.tl1_text.specs.Reading.{first_set as lowest};
 ghost use Rattle.tl1_text.specs.Spans.{IsBlockIn};

@@ -167,7 +167,7 @@ ends_grammar code f t tag pay c x y z p short = record {
   most_words = c.few;
 }
 
--- texts one behind the other, from the left and from the right
+-- texts one after the other, from the left and from the right
 abbrev leftward : List ℕ → List (List ℕ) → List ℕ
 leftward front [] = front
 leftward front (t ∷ ts) = leftward (front ++ t) ts

@@ -47,12 +47,12 @@ not_in_use t s all = in_use_found t s ∙ ap is_some (none_found (uses_side s) t
 not_first : (k d : Conn) → nat_lt d.from.0 k.from.0 ≡ true → is_before k d ≡ false
 not_first k d lt = let low = lt_of d.from.0 k.from.0 lt in false_of (is_before k d) (λ b. ⊎_elim (λ (e : k.from.0 < d.from.0). omega arith) (λ (e : (k.from.0 ≡ d.from.0) × (k.to.0 < d.to.0)). let f = e.0 in omega arith) (earlier_of k d b))
 
--- a connection comes behind those in front of it
+-- a connection comes after those in front of it
 put_last : (k : Conn) (done ks : List Conn) → RisesByFrom (done ++ k ∷ ks) → put is_before k done ≡ done ++ k ∷ []
 put_last k [] ks r = refl
 put_last k (d ∷ ds) ks r = rw (not_first k d (each_at (λ (e : Conn). nat_lt d.from.0 e.from.0 ≡ true) ds k ks r.0)) (ap (λ (xs : List Conn). d ∷ xs) (put_last k ds ks r.1))
 
--- the next connection of a table may be entered behind those in front of it
+-- the next connection of a table may be entered after those in front of it
 module _ (t : Board) (p : IsProper t) (s : IsOfShape t) (done : List Conn) (k : Conn) (ks : List Conn) (e : t.conns ≡ done ++ k ∷ ks) where
   apart : Apart (done ++ k ∷ ks)
   apart = subst Apart e (apart_of t.conns p.apart)

@@ -15,7 +15,7 @@ with_tag front n = front ++ codes ":" ++ decimal n
 abbrev pub with_ends : List ℕ → Dimensions → ℕ → Conn → List ℕ
 with_ends front d n c = with_tag (front ++ port_name d c.from ++ codes "," ++ port_name d c.to) n ++ codes "::" ++ cct_text c.cct
 
--- and then a label in quotes behind a comma; nothing more where it is empty
+-- and then a label in quotes after a comma; nothing more where it is empty
 abbrev pub with_label : List ℕ → List ℕ → List ℕ
 with_label front [] = front
 with_label front (b ∷ bs) = front ++ codes ",\"" ++ (b ∷ bs) ++ codes "\""

@@ -1,4 +1,4 @@
--- One byte more of a unit that is being cut behind its code.
+-- One byte more of a unit that is being cut after its code.
 use Rattle.std.proofs.Common.{◌≡◌, ◌≢◌, ℕ, ◌+◌, ◌-◌, ◌<◌, ◌≤◌, Bool, true, false, List, [], ◌∷◌, ◌++◌, length, get_or, nat_le, ◌&&◌, ◌||◌, ◌==◌, Option, Some, None, MatchOption, refl, ◌∙◌, ap, length-append, arith}
 use Rattle.std.proofs.lemmas.Bool.Decides.{nat_tests}
 use Rattle.tl1_text.specs.Places.{Place, Start, Plain, Quoted, Closed}
@@ -144,7 +144,7 @@ module _ (unit : List ℕ) (code at : ℕ) (found : List Span) (start params : �
         let starts = on.starts (ap (λ (k : ℕ). is_mark (get_or unit k 0)) before_at ∙ before) in
         next_byte unit at now on.cut lt Quoted (rw (on.outside, quote) (refl)) (rw (on.outside, quote) (refl)) (rw (starts, quote) (refl))
 
-  -- what is cut behind the last byte
+  -- what is cut after the last byte
   module _ (last : length unit ≡ at) (more : List Span) (more_at : more ≡ found ++ record { start = start; end = length unit } ∷ []) (is_code : IsCode unit code) where
     more_is : more ≡ found ++ record { start = start; end = at } ∷ []
     more_is = more_at ∙ ap (λ (n : ℕ). found ++ record { start = start; end = n } ∷ []) last

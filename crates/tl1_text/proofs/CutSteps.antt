@@ -193,7 +193,7 @@ module _ (unit : List ℕ) (at : ℕ) (c : Cutting) (cut : IsCutTo unit at c) wh
       pub no_code : blocks_of unit ≡ None
       no_code = no_code_at (is_outside c.place && (get_or unit at 0 == 58)) (is_outside c.place && (get_or unit at 0 == 44)) refl refl
 
-  -- behind the last byte
+  -- after the last byte
   module _ (last : length unit ≡ at) where
     at_end : reading unit ≡ option_map (resumed cut.done (slice_range unit c.start at) cut.values cut.value) (if is_outside c.place then Some nothing else None)
     at_end = cut.goes_on ∙ ap (λ (l : List ℕ). option_map (resumed cut.done (slice_range unit c.start at) cut.values cut.value) (walk c.place l)) (drop_all at unit (omega (arith, last)))

@@ -11,7 +11,7 @@ use Rattle.tl1_text.specs.Values.{begins_quoted, IsFirst}
 use Rattle.tl1_text.proofs.BlockFacts.{values_are}
 use Rattle.tl1_text.proofs.Walks.{both}
 
--- a mark behind bytes that none is
+-- a mark after bytes that none is
 module _ (mark good : ℕ → Bool) (other : (x : ℕ) → good x ≡ true → mark x ≡ false) where
   behind : (v more : List ℕ) (b : ℕ) → list_all good v ≡ true → mark b ≡ true → position_or_len mark (v ++ b ∷ more) ≡ length v
   behind [] more b all is = rw is (refl)
@@ -62,7 +62,7 @@ behind_first (b ∷ t) = let size : length (b ∷ t) - 1 ≡ length t = omega ar
     whole [] = refl
     whole (x ∷ t) = ap (λ (l : List ℕ). x ∷ l) (whole t)
 
--- the values of what stands behind a comma
+-- the values of what stands after a comma
 record HasOthers (rest : List ℕ) (vs : List (List ℕ)) : Type 0 where
   pub values : values_of rest ≡ vs
   pub params : AreParams rest (values_of rest)
@@ -81,7 +81,7 @@ none_is_last _ _ (more_params p v rest vs is more) bare none = elim (kinds p v i
   | inr y ↦ (let never : begins_quoted (p ++ 44 ∷ rest) ≡ true = ap (λ (l : List ℕ). begins_quoted (l ++ 44 ∷ rest)) y.0 in cc)
 ]
 
--- a comma: the value stands in front of it, and the others behind
+-- a comma: the value stands in front of it, and the others after
 record IsParted (text : List ℕ) (vs : List (List ℕ)) (v rest : List ℕ) : Type 0 where
   pub values : vs ≡ v ∷ values_of rest
   pub others : AreParams rest (values_of rest)
@@ -105,7 +105,7 @@ first_comma _ _ n (more_params p v rest vs is more) bare some = elim (kinds p v 
   | inr y ↦ (let never : begins_quoted (p ++ 44 ∷ rest) ≡ true = ap (λ (l : List ℕ). begins_quoted (l ++ 44 ∷ rest)) y.0 in cc)
 ]
 
--- inside quotes: the value, and behind them nothing, or a comma and the others
+-- inside quotes: the value, and after them nothing, or a comma and the others
 record IsInside (text : List ℕ) (vs : List (List ℕ)) (n : ℕ) : Type 0 where
   pub quote : position is_quote (drop 1 text) ≡ Some n
   pub value : List ℕ

@@ -78,11 +78,11 @@ run_append : (xs ys : List ℕ) → IsRun xs → IsRun ys → IsRun (xs ++ ys)
 run_append [] ys first next = next
 run_append (x ∷ xs) ys first next = (first.0, first.1, run_append xs ys first.2 next)
 
--- a run, and one behind it
+-- a run, and one after it
 pub run_further : (text : List ℕ) (a b : ℕ) → IsRun (take a text) → IsRun (take b (drop a text)) → IsRun (take (a + b) text)
 run_further text a b first next = subst (λ (l : List ℕ). IsRun l) (two_parts text a b) (run_append (take a text) (take b (drop a text)) first next)
 
--- a run, and one byte behind it
+-- a run, and one byte after it
 pub run_more : (text : List ℕ) (at : ℕ) → at < length text → IsRun (take at text) → get_or text at 0 ≢ 59 → get_or text at 0 ≢ 34 → IsRun (take (at + 1) text)
 run_more text at lt run semicolon quote = subst (λ (l : List ℕ). IsRun l) (sym (take_more text at 0 lt)) (run_append (take at text) (get_or text at 0 ∷ []) run (semicolon, quote, tt))
 

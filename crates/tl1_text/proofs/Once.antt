@@ -19,7 +19,7 @@ gaps_once (x ∷ g) (y ∷ h) s t ag ah bs bt e =
     let rest = gaps_once g h s t ag.1 ah.1 bs bt parts.1 in
     (ap₂ (λ (a : ℕ) (l : List ℕ). a ∷ l) parts.0 rest.0, rest.1)
 
--- two texts before a ; are equal, or one goes on behind the other's ;
+-- two texts before a ; are equal, or one goes on after the other's ;
 apart : (a b x y : List ℕ) → a ++ 59 ∷ x ≡ b ++ 59 ∷ y → ((a ≡ b) × (x ≡ y)) ⊎ (((m : List ℕ) × (b ≡ a ++ 59 ∷ m)) ⊎ ((m : List ℕ) × (a ≡ b ++ 59 ∷ m)))
 apart [] [] x y e = inl (refl, (tail_is e).1)
 apart [] (c ∷ b) x y e = inr (inl (b, ap (λ (n : ℕ). n ∷ b) (sym (tail_is e).0)))

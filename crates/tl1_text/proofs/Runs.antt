@@ -25,7 +25,7 @@ holds_run_past (b ∷ text) bs kept h le run =
     let one = holds_past bs kept h b le (λ is. absurd (run.0 is)) in
     subst (λ (l : List ℕ). Holds l kept) (append_assoc bs (b ∷ []) text) (holds_run_past text (bs ++ b ∷ []) kept one le run.2)
 
--- quotes behind a run
+-- quotes after a run
 pub quoted_run : (text kept : List ℕ) → IsRun text → is_quoted (kept ++ text) ≡ is_quoted kept
 quoted_run [] kept run = ap is_quoted (append-nil kept)
 quoted_run (b ∷ text) kept run =

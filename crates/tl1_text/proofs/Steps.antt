@@ -138,7 +138,7 @@ flip true false = refl
 flip false true = refl
 flip false false = refl
 
--- behind fewer bytes than the limit a ; inside quotes ends nothing
+-- after fewer bytes than the limit a ; inside quotes ends nothing
 pub stays_quoted : (text : List ℕ) → length text < 2048 → is_quoted text ≡ true → ends_behind text ≡ false
 stays_quoted text lt is =
     let short : nat_lt (length text) 2048 ≡ true = grind (arith, nat_tests) in

@@ -51,7 +51,7 @@ module _ (class : ℕ → Bool) where
       ∙ mask_l-mod (map class v) 64 (omega (arith, length-map v class, long))
       ∙ ap (λ n. mask_of class (take n (drop at d))) size
 
-  -- a mask without its lowest bits is that of the bytes behind
+  -- a mask without its lowest bits is that of the bytes after
   shifted : (s : ℕ) (v : List ℕ) → mask_of class v / 2 ^ s ≡ mask_of class (drop s v)
   shifted zero v = div-one (mask_of class v)
   shifted (suc s) [] = zero-div (2 ^ suc s)
@@ -99,7 +99,7 @@ module _ (class : ℕ → Bool) where
       by_test true is go = rw is (omega arith)
       by_test false is go = (let later : 0 < mask_of class v = half (mask_of class v) (rw is at some) in rw is (omega (arith, go later)))
 
-  -- a run of bytes that aren't of the class, and one behind it that is
+  -- a run of bytes that aren't of the class, and one after it that is
   pub record IsRunTo (text : List ℕ) (at end : ℕ) : Type 0 where
     pub others : (k : ℕ) → at ≤ k → k < end → class (get_or text k 0) ≡ false
     pub stop : class (get_or text end 0) ≡ true

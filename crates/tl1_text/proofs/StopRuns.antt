@@ -28,7 +28,7 @@ on_run unit code at found start params (suc n) le others on =
     let plain = not_false (is_plain (get_or unit (at + n) 0)) (others (at + n) (omega arith) (omega arith)) in
     subst (λ k. IsCutOn unit code k found start params) same (on_plain unit code (at + n) found start params before (omega (arith, le)) plain)
 
--- the same behind a run of plain bytes, where one stands that isn't
+-- the same after a run of plain bytes, where one stands that isn't
 pub record IsAtStop (unit : List ℕ) (code at : ℕ) (found : List Span) (start params rest : ℕ) : Type 0 where
   pub within : at < length unit
   pub on : IsCutOn unit code at found start params
@@ -54,7 +54,7 @@ module _ (unit : List ℕ) (code at : ℕ) (found : List Span) (start params res
       let others = no_more is_stop unit at (length unit) rest stops (omega arith) le none in
       subst (λ k. IsCutOn unit code k found start params) all (on_run unit code at found start params (length unit - at) (omega (arith, le)) (λ k from to. others k from (omega (arith, to, le))) on)
 
--- the mask of what stands behind
+-- the mask of what stands after
 pub stop_passed : (unit : List ℕ) (code at : ℕ) (found : List Span) (start params rest : ℕ) → IsAtStop unit code at found start params rest → rest / 2 ^ 1 ≡ mask_of is_stop (slice_range unit (at + 1) (length unit))
 stop_passed unit code at found start params rest s = behind is_stop unit at 1 (length unit) rest s.stops
 
@@ -73,7 +73,7 @@ code_run unit at word left (suc n) le others is =
     let letter = not_false (is_ascii_alphanumeric (get_or unit (at + n) 0)) (others (at + n) (omega arith) (omega arith)) in
     subst (λ k. IsCodeTo unit k word left) same (code_letter unit (at + n) word left before (omega (arith, le)) letter)
 
--- behind a word
+-- after a word
 pub record IsAtBreak (unit : List ℕ) (at word left : ℕ) : Type 0 where
   pub within : at < 16
   pub code : IsCodeTo unit at word left

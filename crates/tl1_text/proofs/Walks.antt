@@ -38,7 +38,7 @@ inner_picks true false is = refl
 pub inner_not : (b : ℕ) → is_inner b ≡ true → (b == 34) ≡ false
 inner_not b is = inner_picks (is_in_range 32 126 b) (b == 34) is
 
--- behind a parameter stands a mark, or nothing
+-- after a parameter stands a mark, or nothing
 data Ends : List ℕ → Type 0 where
   ends_all : Ends []
   ends_comma : (x : List ℕ) → Ends (44 ∷ x)
@@ -85,7 +85,7 @@ walk_param _ _ t (quoted v is) ends =
     rw (append_assoc v (34 ∷ []) t, walk_inner v t is, ends_closed t ends)
     (map_twice (λ r. with_byte 34 r) (grown (v ++ 34 ∷ []) v) (grown (34 ∷ v ++ 34 ∷ []) v) (walk Start t) (λ r. refl))
 
--- a walk over a block, and what stands behind it
+-- a walk over a block, and what stands after it
 pub record Walks (t text : List ℕ) (vs : List (List ℕ)) (others : List Block) : Type 0 where
   pub rest : Rest
   pub walk_is : walk Start t ≡ Some rest

@@ -70,7 +70,7 @@ pub record Headway : Type 0 where
   pub start : ℕ
   pub params : ℕ
 
--- behind its code the unit is cut as far as a place outside quotes, which the byte before it tells
+-- after its code the unit is cut as far as a place outside quotes, which the byte before it tells
 pub record IsCutOn (unit : List ℕ) (code at : ℕ) (found : List Span) (start params : ℕ) : Type 0 where
   pub place : Place
   pub cut : IsCutTo unit at (record { found = found; start = start; params = params; place = place })

@@ -23,7 +23,7 @@ is_ctag text = is_short 6 text && (is_alphanumeric text && not (is_zeros text))
 abbrev pub as_ctag : List ℕ → Option (List ℕ)
 as_ctag text = if is_ctag text then Some text else None
 
--- whether a quote stands open behind one byte more
+-- whether a quote stands open after one byte more
 abbrev pub flip : Bool → ℕ → Bool
 flip quoted b = if b == 34 then not quoted else quoted
 
@@ -32,7 +32,7 @@ abbrev pub before_colon : Bool → List ℕ → List ℕ
 before_colon quoted [] = []
 before_colon quoted (b ∷ bs) = if not quoted && (b == 58) then [] else b ∷ before_colon (flip quoted b) bs
 
--- the bytes behind it, where there is one
+-- the bytes after it, where there is one
 abbrev pub behind_colon : Bool → List ℕ → Option (List ℕ)
 behind_colon quoted [] = None
 behind_colon quoted (b ∷ bs) = if not quoted && (b == 58) then Some bs else behind_colon (flip quoted b) bs

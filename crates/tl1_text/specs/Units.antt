@@ -19,12 +19,12 @@ abbrev pub Begins : List ℕ → Type 0
 Begins [] = Unit {0}
 Begins (b ∷ bs) = is_gap b ≡ false
 
--- a quote stands open behind these bytes
+-- a quote stands open after these bytes
 abbrev pub is_quoted : List ℕ → Bool
 is_quoted [] = false
 is_quoted (b ∷ bs) = if b == 34 then not (is_quoted bs) else is_quoted bs
 
--- a ; behind these bytes of a unit ends it: outside quotes, or past the limit
+-- a ; after these bytes of a unit ends it: outside quotes, or past the limit
 abbrev pub ends_behind : List ℕ → Bool
 ends_behind before = if nat_lt (length before) 2048 then not (is_quoted before) else true
 

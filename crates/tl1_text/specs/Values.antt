@@ -19,7 +19,7 @@ abbrev pub begins_quoted : List ℕ → Bool
 begins_quoted [] = false
 begins_quoted (b ∷ bs) = b == 34
 
--- the values of the parameters behind one
+-- the values of the parameters after one
 abbrev pub values_behind : List ℕ → Option Span → List (List ℕ)
 values_behind unit None = []
 values_behind unit (Some s) = values_of (text_at unit s)

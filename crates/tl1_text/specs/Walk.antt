@@ -24,7 +24,7 @@ takes_plain Closed = false
 abbrev pub ArePlain : List ℕ → ℕ → ℕ → Type 0
 ArePlain text from end = (k : ℕ) → from ≤ k → k < end → is_plain (slice_index text k) ≡ true
 
--- the place in a parameter behind one byte more, where the byte may stand here
+-- the place in a parameter after one byte more, where the byte may stand here
 abbrev pub after : Place → ℕ → Option Place
 after Start b = if b == 34 then Some Quoted else if is_plain b then Some Plain else None
 after Plain b = if is_plain b then Some Plain else None

@@ -113,7 +113,7 @@ fn before_colon(text: &[u8]) -> &[u8]
     text
 }
 
-/// The bytes behind the first colon outside quotes, where there is one.
+/// The bytes after the first colon outside quotes, where there is one.
 fn behind_colon(text: &[u8]) -> Option<&[u8]>
     ensures { option_map (λ t. t.now) result ≡ back false text.now }
 {

@@ -12,7 +12,7 @@ use arrayvec::ArrayVec;
 /// A block has at most so many parameters.
 pub const PARAMS: usize = 8;
 
-/// Where the code ends that begins a unit: one to three words of letters and digits joined by `-`, with a colon behind
+/// Where the code ends that begins a unit: one to three words of letters and digits joined by `-`, with a colon after
 /// them. None only where the unit isn't in the grammar.
 #[inline(always)]
 pub fn code_end(unit: &[u8]) -> Option<usize>
@@ -42,7 +42,7 @@ pub fn code_end(unit: &[u8]) -> Option<usize>
     None
 }
 
-/// Cuts what stands behind the code. False exactly where the unit isn't in the grammar.
+/// Cuts what stands after the code. False exactly where the unit isn't in the grammar.
 pub fn cut(unit: &[u8], code: usize, found: &mut ArrayVec<Span, 10>) -> bool
     requires short { length unit.now ≤ 2047 }
     requires is_code { IsCode unit.now code }
@@ -83,7 +83,7 @@ pub fn cut(unit: &[u8], code: usize, found: &mut ArrayVec<Span, 10>) -> bool
     found.len() >= 4
 }
 
-/// Where the quotes end that begin at a byte behind a mark; a mark stands there, or nothing. None only where the unit isn't in
+/// Where the quotes end that begin at a byte after a mark; a mark stands there, or nothing. None only where the unit isn't in
 /// the grammar.
 pub fn quotes_end(unit: &[u8], at: usize) -> Option<usize>
     requires some { 0 < at }
@@ -113,7 +113,7 @@ pub fn quotes_end(unit: &[u8], at: usize) -> Option<usize>
     None
 }
 
-/// A place behind quotes, where a mark stands there, or nothing.
+/// A place after quotes, where a mark stands there, or nothing.
 fn closed_at(unit: &[u8], at: usize) -> Option<usize>
     ensures { MatchOption result ((at < length unit.now) × (mark (slice_index unit.now at) ≡ false))
         (λ end. (end ≡ at) × (at < length unit.now → mark (slice_index unit.now at) ≡ true)) }

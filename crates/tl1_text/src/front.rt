@@ -3,10 +3,8 @@ ghost use Rattle.std.specs.Prelude.{◌≡◌, ◌≤◌, length, take};
 ghost use Rattle.tl1_text.specs.Tags.{IsUnparted};
 
 use crate::look::first_set;
+use crate::stops::LANES;
 use std::simd::prelude::*;
-
-/// So many bytes are looked at once.
-const LANES: usize = 16;
 
 /// How many bytes in a text's front are known to be neither colons nor quotes: at most sixteen, and none of a shorter text.
 pub fn front_of(text: &[u8]) -> usize

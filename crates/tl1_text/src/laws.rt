@@ -11,7 +11,7 @@ pub fn units_are_determined()
     ensures { AreDetermined }
 {}
 
-/// The units of two streams one behind the other are those of the first, continued by those of its rest and the second.
+/// The units of two streams one after the other are those of the first, continued by those of its rest and the second.
 pub fn units_are_continued()
     ensures { AreContinued }
 {}

@@ -41,7 +41,7 @@ pub fn code_by_breaks(unit: &[u8], breaks: u64) -> Option<usize>
     code_end(unit)
 }
 
-/// Cuts what stands behind the code. False exactly where the unit isn't in the grammar.
+/// Cuts what stands after the code. False exactly where the unit isn't in the grammar.
 pub fn cut_runs(unit: &[u8], code: usize, stops: u64, found: &mut ArrayVec<Span, 10>) -> bool
     requires short { length unit.now ≤ 64 }
     requires is_code { IsCode unit.now code }

@@ -2,10 +2,8 @@
 ghost use Rattle.std.specs.Prelude.{◌≡◌, ◌≤◌, ◌<◌, ◌+◌, length, take, drop};
 ghost use Rattle.tl1_text.specs.Reading.{IsRun, first_set as lowest};
 
+use crate::stops::LANES;
 use std::simd::prelude::*;
-
-/// So many bytes are looked at once.
-const LANES: usize = 16;
 
 /// How many bytes stand in front of the first `;` or quote.
 pub fn run_of(text: &[u8]) -> usize

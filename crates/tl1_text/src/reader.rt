@@ -28,7 +28,7 @@ pub struct Fed {
 /// Cuts a stream of bytes into units, in whatever pieces the bytes come.
 ///
 /// Before a unit blanks, CR and LF fall away. A unit ends at its first `;` outside quotes, where that is at
-/// most its 2,048th byte, and else at the first `;` behind its 2,048th byte.
+/// most its 2,048th byte, and else at the first `;` after its 2,048th byte.
 #[derive(Drop)]
 pub struct UnitReader {
     kept: Kept,

@@ -1,7 +1,5 @@
 use dxc_host::{HostOpener, TermLink};
-use dxc_outside::{
-    Came, Clock, Gate, GatePlace, Got, Link, Listener, Opened, Opener, Pass1, Put, Sent,
-};
+use dxc_outside::{Came, Clock, Gate, GatePlace, Got, Link, Listener, Opened, Opener, Put, Sent};
 use std::io::Read;
 use std::net::{TcpListener, TcpStream};
 use std::test::Fail;
@@ -25,7 +23,7 @@ fn a_terminal_reads_and_writes(rt: HostRuntime) -> Result<(), Fail> {
     Ok(())
 }
 
-// What is written before the first read goes out at once, and what is written behind it before the next.
+// What is written before the first read goes out at once, and what is written after it before the next.
 #[test]
 fn a_full_terminal_fails_as_it_is_written_out(rt: HostRuntime) -> Result<(), Fail> {
     let alloc = rt.alloc();
@@ -44,7 +42,7 @@ fn a_full_terminal_fails_as_it_is_written_out(rt: HostRuntime) -> Result<(), Fai
     Ok(())
 }
 
-// A link's first write behind a change may be its answer.
+// A link's first write after a change may be its answer.
 #[test]
 fn a_changes_answer_goes_out_at_once(rt: HostRuntime) -> Result<(), Fail> {
     let mut room = [0u8; 4];
@@ -58,9 +56,9 @@ fn a_changes_answer_goes_out_at_once(rt: HostRuntime) -> Result<(), Fail> {
     let (mut link, mut gate) = made;
     assert!(rt; link.read(&mut piece) == Got::Bytes(1));
     assert!(rt; link.write(b"xy") == Put::Took(2));
-    assert!(rt; gate.pass(GatePlace::Register) == Pass1::Go);
+    assert!(rt; gate.pass(GatePlace::Register) == Ok(()));
     assert!(rt; link.write(b"z") == Put::Took(1));
-    assert!(rt; gate.pass(GatePlace::Journal) == Pass1::Go);
+    assert!(rt; gate.pass(GatePlace::Journal) == Ok(()));
     assert!(rt; link.write(b"uv") == Put::Failed, "five bytes are too many");
     assert!(rt; link.finish() == Sent::Whole);
     Ok(())

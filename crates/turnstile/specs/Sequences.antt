@@ -5,7 +5,7 @@ use Rattle.turnstile.specs.declared.board.Held.{Held}
 use Rattle.turnstile.specs.declared.board.Opened.{Opened}
 use Rattle.turnstile.specs.declared.board.View.{View}
 use Rattle.turnstile.specs.declared.sequential.Sequential.{Ghosts as SequenceOf}
-use Rattle.turnstile.specs.Passing.{Gate, Out, Token}
+use Rattle.turnstile.specs.Passing.{TurnstileView, Out, Token}
 use Rattle.turnstile.specs.Turning.{Found, Kept, opening_in, stands_in, turned_from}
 
 module _ {S E : Type 0} (g : SequenceOf S E) where
@@ -18,5 +18,5 @@ module _ {S E : Type 0} (g : SequenceOf S E) where
   Turned v x after = turned_from g.opening_code.code g.entry_code.code (opening_in g.opening) g.number (stands_in g.stands) v x after
 
   -- what a pass finds that has the turn
-  abbrev pub FoundIn : Gate S → Token → Out S → Type 0
+  abbrev pub FoundIn : TurnstileView S → Token → Out S → Type 0
   FoundIn turnstile pass turn = Found g.entry_code.code g.opening g.number g.stands turn.own turnstile.passes (g.opening turnstile.first) pass.seen turn.state turn.seen

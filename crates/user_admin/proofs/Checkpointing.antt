@@ -5,8 +5,8 @@ use Rattle.std.specs.Prelude.{get_or, slice_index, Result, Ok, Err, OnOk, OnErr}
 use Rattle.std.specs.FinMap.{len}
 use Rattle.dxc_disk.specs.Disks.{DiskState, LeavesOnly}
 use Rattle.journal_core.specs.declared.book.Book.{Book}
-use Rattle.journal_core.specs.declared.spare.Spare.{Spare}
-use Rattle.journal_core.specs.declared.spare.Spare.TheVariants.{Older, Open, Drafted, Tried}
+use Rattle.journal_core.specs.declared.spare.SpareArea.{SpareArea}
+use Rattle.journal_core.specs.declared.spare.SpareArea.TheVariants.{Older, Open, Drafted, Tried}
 use Rattle.journal_core.specs.declared.spare.Draft.{Draft}
 use Rattle.journal_core.specs.Areas.{other_half}
 use Rattle.journal_core.specs.Books.{IsReady, draft_of, is_drafted, is_tried, rows, turned}
@@ -29,7 +29,7 @@ use Rattle.user_admin.proofs.Leading.{rows_lead}
 use Rattle.user_admin.proofs.Readback.{spelling_read}
 use Rattle.user_admin.proofs.Spelling.{rows_spellable}
 
-drafted_untried : (spare : Spare) → is_drafted spare ≡ true → is_tried spare ≡ false
+drafted_untried : (spare : SpareArea) → is_drafted spare ≡ true → is_tried spare ≡ false
 drafted_untried Older e = refl
 drafted_untried Open e = refl
 drafted_untried (Drafted d) e = refl
@@ -101,7 +101,7 @@ row_sealed (Edit u) = refl
 row_sealed (Delete name) = refl
 
 -- a draft, by its rows
-drafted_as : (spare : Spare) → is_drafted spare ≡ true → spare ≡ Drafted (draft_of spare)
+drafted_as : (spare : SpareArea) → is_drafted spare ≡ true → spare ≡ Drafted (draft_of spare)
 drafted_as Older e = absurd (never refl e)
 drafted_as Open e = absurd (never refl e)
 drafted_as (Drafted d) e = refl

@@ -125,7 +125,7 @@ left_on a b c d e shelf users doubt same first next = only_on a b c (IsOldOrDoub
 pub more_left : (a b : DiskState) (d : Dimensions) (shelf users : Users) (doubt : Option UserChange) (c : UserChange) → LeavesOnly a b (IsOldOrDoubted d shelf users doubt) → LeavesOnly a b (IsOldOrOneMore d shelf users doubt c)
 more_left a b d shelf users doubt c only = only_weaker a b (IsOldOrDoubted d shelf users doubt) (IsOldOrOneMore d shelf users doubt c) (λ file is. inl is) only
 
--- An append behind calls that made the journal ready, by its result.
+-- An append after calls that made the journal ready, by its result.
 module _ (told : Type 0) (first old new : DiskState) (at before after : Book) (shelf users : Users) (c : UserChange) (bytes : List ℕ) (means : Means shelf bytes c) (fits : Fits c users) (ready : IsReady before × (before.to_mend ≡ false)) (whole : IsWhole before)
     (come : (doubt : Option UserChange) → IsAtHome told first at shelf users doubt → IsAtHome told old before shelf users doubt) where
   pub append_kept : {T E : Type 0} (result : Result T E) → (told → Appends old new before after result bytes) → OnOk result (after ≡ record before { count = before.count + 1; reach = after.reach })

@@ -1,4 +1,4 @@
--- Users behind their names, in a map.
+-- Users by their names, in a map.
 use Rattle.std.proofs.Common.{◌≡◌, ◌≢◌, ℕ, zero, suc, ◌+◌, ◌-◌, ◌<◌, ◌≤◌, Bool, true, false, true≢false, not, ◌&&◌, T, cond, Option, Some, None, List, [], ◌∷◌, ◌++◌, length, option_map, slice_get, take, get_or, nat_lt, if◌then◌else◌, sym, refl, ap, ◌∙◌, subst, arith}
 use Rattle.std.proofs.lemmas.Bool.Decides.{nat_tests}
 use Rattle.std.proofs.lemmas.List.{length-map}

@@ -1,10 +1,11 @@
 -- What turns left with the users' turnstile: the entries among it, and who has the keeper.
-use Rattle.std.proofs.Common.{◌≡◌, ◌≢◌, ℕ, Option, Some, None, List, [], ◌∷◌, ◌++◌, append-nil, append_assoc, refl, sym, ◌∙◌, ap}
+use Rattle.std.proofs.Common.{◌≡◌, ◌≢◌, ℕ, Option, Some, None, Result, Ok, Err, List, [], ◌∷◌, ◌++◌, append-nil, append_assoc, refl, sym, ◌∙◌, ap}
 use Rattle.turnstile.specs.Turning.{Each}
+use Rattle.dxc_outside.specs.declared.stopped.Stopped.{Stopped}
 use Rattle.user_admin.specs.declared.op.UserEntry.{UserEntry}
 use Rattle.user_admin.specs.declared.op.UserMark.{UserMark}
 use Rattle.user_admin.specs.declared.op.UserMark.TheVariants.{Entered, Took}
-use Rattle.user_admin.specs.declared.op.UserOp.{UserOp}
+use Rattle.tl1_users.specs.declared.op.UserOp.{UserOp}
 use Rattle.user_admin.specs.declared.op.UserOutcome.{UserOutcome}
 use Rattle.user_admin.specs.declared.op.UserOutcome.TheVariants.{Done, Denied, Failed, Answered}
 use Rattle.user_admin.specs.declared.shared.Planned.{Planned}
@@ -108,8 +109,8 @@ pub no_mark : (m : UserMark) → None ≡ Some m → ⊥
 no_mark m e = cc
 
 -- what a turn leaves in which a change was to begin is of its place
-pub marked_place : {D : Type 0} (n : ℕ) (op : UserOp) (p : Planned D) (m : UserMark) → mark_for n op p ≡ Some m → place_of m ≡ n
-marked_place n op (planned.Taken k c) m is = ap place_of (sym (same_mark _ _ is))
-marked_place n op (planned.Denied q) m is = ap place_of (sym (same_mark _ _ is))
-marked_place n op planned.Stopped m is = absurd (no_mark m is)
-marked_place n op planned.Waits m is = absurd (no_mark m is)
+pub marked_place : {D : Type 0} (n : ℕ) (op : UserOp) (p : Result (Planned D) Stopped) (m : UserMark) → mark_for n op p ≡ Some m → place_of m ≡ n
+marked_place n op (Ok (planned.Taken k c)) m is = ap place_of (sym (same_mark _ _ is))
+marked_place n op (Ok (planned.Denied q)) m is = ap place_of (sym (same_mark _ _ is))
+marked_place n op (Ok planned.Waits) m is = absurd (no_mark m is)
+marked_place n op (Err e) m is = absurd (no_mark m is)

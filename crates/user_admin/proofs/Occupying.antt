@@ -1,10 +1,10 @@
--- Who is where behind one entry more, and each place in turn.
+-- Who is where after one entry more, and each place in turn.
 use Rattle.std.proofs.Common.{◌≡◌, ◌<◌, ◌+◌, ℕ, zero, suc, Bool, true, false, Option, Some, None, List, [], ◌∷◌, ◌++◌, length, map, take, drop, set, refl, ◌∙◌, ap, arith}
 use Rattle.std.specs.Prelude.{slice_index_or}
 use Rattle.dxc_model.specs.declared.user.Class.{Class}
 use Rattle.user_admin.specs.declared.occupants.Occupant.{Occupant}
 use Rattle.user_admin.specs.declared.op.UserEntry.{UserEntry}
-use Rattle.user_admin.specs.declared.op.UserOp.{UserOp}
+use Rattle.tl1_users.specs.declared.op.UserOp.{UserOp}
 use Rattle.user_admin.specs.declared.op.UserOutcome.{UserOutcome}
 use Rattle.user_admin.specs.declared.op.UserOutcome.TheVariants.{Done, Denied, Failed, Answered}
 use Rattle.user_admin.specs.Histories.{IsReading}
@@ -17,7 +17,7 @@ occupied_append : (os : List Occupant) (h g : List UserEntry) → occupied_from 
 occupied_append os [] g = refl
 occupied_append os (e ∷ h) g = occupied_append (occupied_by e.place e.op e.outcome os) h g
 
--- behind one entry more
+-- after one entry more
 pub occupants_more : (h : List UserEntry) (e : UserEntry) → occupants_after (h ++ e ∷ []) ≡ occupied_by e.place e.op e.outcome (occupants_after h)
 occupants_more h e = occupied_append nobody_yet h (e ∷ [])
 

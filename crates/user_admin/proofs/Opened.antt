@@ -97,7 +97,7 @@ bad_record shelf h a b book i users left same disk whole mended still old new ba
       },
     )
 
--- what holds of a crash at any moment of a call holds still where only looks came behind it
+-- what holds of a crash at any moment of a call holds still where only looks came after it
 looked_on : (a b c : DiskState) (P : List ℕ → Type 0) → IsDisk b → LeavesOnly a b P → Looks b c → LeavesOnly a c P
 looked_on a b c P disk first looks =
     let image_has : (x : List ℕ) → c.may_leave x → P x = λ x image. first.each x (disk.counts_now a.moment x first.later (looks.crash x image)) in
@@ -107,7 +107,7 @@ looked_on a b c P disk first looks =
       before = λ t x le left. ⊎_elim (λ mid. first.before t x le mid) (λ image. inr (image_has x image)) (looks.time.nothing_else t x (omega (arith, le, first.later)) left);
     }
 
--- the moments of an opening, and of looks behind it
+-- the moments of an opening, and of looks after it
 pub leaves_opened : (shelf : Contents) (a b c : DiskState) (result : Result Book JournalWhy) → IsDisk b → ((IsNew a.reads_as → ⊥) → OpensOld shelf.shape a b result) → (IsNew a.reads_as → OpensNew shelf.shape (made_head shelf.equipped) a b result)
     → Looks b c → LeavesOpened shelf a c
 leaves_opened shelf a b c result disk old new looks = record {

@@ -1,14 +1,15 @@
 -- A place that hasn't got the keeper out gets it by no turn but the one in which it takes it.
-use Rattle.std.proofs.Common.{◌≡◌, ◌≢◌, ℕ, Option, None, Some, List, [], ◌∷◌, ◌++◌, sym, ◌∙◌, ap, subst}
+use Rattle.std.proofs.Common.{◌≡◌, ◌≢◌, ℕ, Option, None, Some, Result, Ok, Err, List, [], ◌∷◌, ◌++◌, sym, ◌∙◌, ap, subst}
 use Rattle.std.proofs.lemmas.List.{map-append}
 use base.Stored.{Gv}
 use Rattle.turnstile.specs.Passing.{Token}
 use Rattle.turnstile.specs.Turning.{Each, Found}
 use Rattle.turnstile.proofs.Lists.{map_once}
 use Rattle.dxc_disk.specs.Disks.{DiskState}
+use Rattle.dxc_outside.specs.declared.stopped.Stopped.{Stopped}
 use Rattle.user_admin.specs.declared.op.UserMark.{UserMark}
 use Rattle.user_admin.specs.declared.op.UserMark.TheVariants.{Entered, Took}
-use Rattle.user_admin.specs.declared.op.UserOp.{UserOp}
+use Rattle.tl1_users.specs.declared.op.UserOp.{UserOp}
 use Rattle.user_admin.specs.declared.op.UserOutcome.{UserOutcome}
 use Rattle.user_admin.specs.declared.op.UserOutcome.TheVariants.{Done, Denied, Failed, Answered}
 use Rattle.user_admin.specs.declared.shared.Planned.{Planned}
@@ -50,7 +51,7 @@ pub nothing_rests : (own : ℕ) → SawRest own []
 nothing_rests own [] is = none_some own
 nothing_rests own (m ∷ ms) is = cc
 
--- a turn of the pass p, behind which it is q
+-- a turn of the pass p, after which it is q
 module _ {D : Type 0} (told : Type 0) (state : D → DiskState) (o : Opening) (by passes : ℕ) (p q : Token) (in_turn : List Gv) (x : SharedUsers D) (is : by ≡ p.number) (same : q.number ≡ p.number) (f : Found mark_coded.code (opening_at state) place_of (SharedStands told state) by passes o p.seen x in_turn) where
   found_rests : IsAtRest p → Rests p.number (f.begun ++ f.later)
   found_rests rests = rests_behind p.number f.begun f.later (rests f.begun f.before) (subst (λ (n : ℕ). Each (λ m. place_of m ≢ n) f.later) is f.others)
@@ -80,15 +81,15 @@ module _ {D : Type 0} (told : Type 0) (state : D → DiskState) (o : Opening) (b
     home_rests home = with_mark (λ held. none_some p.number (sym (home (holder None found)) ∙ held))
 
     -- a turn in which a change was to begin
-    pub took_rests : (op : UserOp) (answer : Planned D) → mark_for p.number op answer ≡ Some m → IsAtRest p → RestsUnlessTaken answer q
-    took_rests op (planned.Taken k c) marked rests = tt
-    took_rests op (planned.Denied cause) marked rests = left_rests (λ who not. subst (λ (y : UserMark). holder_after who y ≢ Some p.number) (same_mark (entered p.number op (refused cause)) m marked) (by_out p.number who (refused cause) not)) rests
-    took_rests op planned.Stopped marked rests = absurd (no_mark m marked)
-    took_rests op planned.Waits marked rests = absurd (no_mark m marked)
+    pub took_rests : (op : UserOp) (answer : Result (Planned D) Stopped) → mark_for p.number op answer ≡ Some m → IsAtRest p → RestsUnlessTaken answer q
+    took_rests op (Ok (planned.Taken k c)) marked rests = tt
+    took_rests op (Ok (planned.Denied cause)) marked rests = left_rests (λ who not. subst (λ (y : UserMark). holder_after who y ≢ Some p.number) (same_mark (entered p.number op (refused cause)) m marked) (by_out p.number who (refused cause) not)) rests
+    took_rests op (Ok planned.Waits) marked rests = absurd (no_mark m marked)
+    took_rests op (Err e) marked rests = absurd (no_mark m marked)
 
   -- or that was given back
-  pub gave_rests : (op : UserOp) (answer : Planned D) → mark_for p.number op answer ≡ None → q.seen ≡ in_turn → IsAtRest p → RestsUnlessTaken answer q
-  gave_rests op (planned.Taken k c) marked seen rests = absurd (some_not_none _ marked)
-  gave_rests op (planned.Denied cause) marked seen rests = absurd (some_not_none _ marked)
-  gave_rests op planned.Stopped marked seen rests = back_rests seen rests
-  gave_rests op planned.Waits marked seen rests = back_rests seen rests
+  pub gave_rests : (op : UserOp) (answer : Result (Planned D) Stopped) → mark_for p.number op answer ≡ None → q.seen ≡ in_turn → IsAtRest p → RestsUnlessTaken answer q
+  gave_rests op (Ok (planned.Taken k c)) marked seen rests = absurd (some_not_none _ marked)
+  gave_rests op (Ok (planned.Denied cause)) marked seen rests = absurd (some_not_none _ marked)
+  gave_rests op (Ok planned.Waits) marked seen rests = back_rests seen rests
+  gave_rests op (Err e) marked seen rests = back_rests seen rests

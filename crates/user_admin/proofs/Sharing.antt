@@ -9,7 +9,7 @@ use Rattle.user_admin.specs.declared.op.UserChange.{UserChange}
 use Rattle.user_admin.specs.declared.op.UserEntry.{UserEntry}
 use Rattle.user_admin.specs.declared.op.UserMark.{UserMark}
 use Rattle.user_admin.specs.declared.op.UserMark.TheVariants.{Entered, Took}
-use Rattle.user_admin.specs.declared.op.UserOp.{UserOp}
+use Rattle.tl1_users.specs.declared.op.UserOp.{UserOp}
 use Rattle.user_admin.specs.declared.op.UserOutcome.{UserOutcome}
 use Rattle.user_admin.specs.declared.op.UserOutcome.TheVariants.{Answered, Denied, Done, Failed}
 use Rattle.user_admin.specs.declared.shared.SharedUsers.{SharedUsers}
@@ -18,7 +18,7 @@ use Rattle.user_admin.specs.Users.{Users}
 use Rattle.user_admin.specs.Changes.{Fits, after}
 use Rattle.user_admin.specs.Verdicts.{Grants, Refuses, refusal}
 use Rattle.user_admin.specs.Histories.{IsLegal, IsLegalFrom, IsReading, MayCome, Opening, change_in, changes_of, users_after}
-use Rattle.user_admin.specs.Spellable.{NamesUid}
+use Rattle.tl1_users.specs.Commands.{NamesUid}
 use Rattle.user_admin.specs.States.{IsGranted, IsPaid, StandsFor, entry, refused}
 use Rattle.user_admin.specs.declared.occupants.Occupant.{Occupant}
 use Rattle.user_admin.specs.Occupants.{answered, nobody_yet, occupants_after, occupied_by}
@@ -47,7 +47,7 @@ paid_more o h e passes paid = λ enough.
 
 module _ {D : Type 0} (told : Type 0) (state : D → DiskState) (disks : (d : D) → told → IsDisk (state d)) (counts : (d : D) → CountsOn (state d)) where
   module _ (o : Opening) (ms : List UserMark) where
-    -- the keeper, behind an entry that passes by
+    -- the keeper, after an entry that passes by
     keeper_more : (n : ℕ) (op : Snapshot UserOp) (out : UserOutcome) → PassesBy out → MayCome o.shelf.sid op.value (users_after o (entries_of ms)) out → (x : Option (Boxed D)) → KeeperIs told state o ms x → KeeperIs told state o (ms ++ Entered n op out ∷ []) x
     keeper_more n op out passes may (Some k) home = (
       holder_append None ms (Entered n op out ∷ []) ∙ stays_by (holder None ms) out passes ∙ home.0,

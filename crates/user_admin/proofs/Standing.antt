@@ -1,5 +1,5 @@
 -- When a state stands for the history that is one entry longer.
-use Rattle.std.proofs.Common.{◌≡◌, ◌⊎◌, inl, inr, ⊎_elim, ℕ, ◌+◌, ◌≤◌, ◌<◌, Bool, true, false, not, ◌&&◌, if◌then◌else◌, List, [], ◌∷◌, ◌++◌, append-nil, append_assoc, Option, Some, None, refl, sym, ◌∙◌, ap, subst, arith}
+use Rattle.std.proofs.Common.{◌≡◌, ◌⊎◌, inl, inr, ⊎_elim, ℕ, ◌+◌, ◌≤◌, ◌<◌, Bool, true, false, not, ◌&&◌, if◌then◌else◌, List, [], ◌∷◌, ◌++◌, append-nil, append_assoc, Option, Some, None, Result, Ok, refl, sym, ◌∙◌, ap, subst, arith}
 use Rattle.std.specs.Prelude.{min, nat_le}
 use Rattle.std.specs.FinMap.{len}
 use Rattle.dxc_causes.specs.Causes.{Rose, last}
@@ -9,6 +9,7 @@ use Rattle.dxc_disk.proofs.DiskSteps.{spends_none}
 use Rattle.dxc_model.specs.declared.cause.Cause.{Cause}
 use Rattle.dxc_model.specs.declared.cause.Cause.TheVariants.{BadIdentity, DiskFault, LastOfClassS, UnknownUser, UserThere, UsersFull}
 use Rattle.dxc_model.specs.declared.user.Class.{Class}
+use Rattle.dxc_outside.specs.declared.stopped.Stopped.{Stopped}
 use Rattle.journal_core.specs.declared.book.Book.{Book}
 use Rattle.journal_core.specs.Books.{IsWhole, listed, next_head, rows}
 use Rattle.journal_core.proofs.BookMends.{kept_stands}
@@ -19,16 +20,18 @@ use Rattle.user_admin.specs.declared.op.UserChange.{UserChange}
 use Rattle.user_admin.specs.declared.op.UserDone.{UserDone}
 use Rattle.user_admin.specs.declared.op.UserDone.TheVariants as done
 use Rattle.user_admin.specs.declared.op.UserEntry.{UserEntry}
-use Rattle.user_admin.specs.declared.op.UserOp.{UserOp}
-use Rattle.user_admin.specs.declared.op.UserOp.TheVariants as asked_for
+use Rattle.tl1_users.specs.declared.op.UserOp.{UserOp}
+use Rattle.tl1_users.specs.declared.op.UserOp.TheVariants as asked_for
 use Rattle.user_admin.specs.declared.op.UserOutcome.{UserOutcome}
 use Rattle.user_admin.specs.declared.op.UserOutcome.TheVariants.{Answered, Denied, Done, Failed}
 use Rattle.user_admin.specs.declared.state.Lists.{Lists}
 use Rattle.user_admin.specs.declared.state.UserState.{UserState}
-use Rattle.user_admin.specs.Users.{Users, is_of_class_s, is_there, named, shelf_users}
+use Rattle.tl1_users.specs.Commands.{is_of_class_s}
+use Rattle.user_admin.specs.Users.{Users, is_there, named, shelf_users}
 use Rattle.user_admin.specs.Changes.{after, effect, most_users}
 use Rattle.user_admin.specs.Verdicts.{Grants, Refuses, class_or, has_pid, is_last_s, refusal, refused_deletion, refused_edit, refused_pid}
-use Rattle.user_admin.specs.Spellable.{AreDescribed, AreSpellable, NamesUid}
+use Rattle.tl1_users.specs.Commands.{NamesUid}
+use Rattle.user_admin.specs.Spellable.{AreDescribed, AreSpellable}
 use Rattle.user_admin.specs.Files.{IsFileOn, IsOldOrDoubted, IsOldOrOneMore}
 use Rattle.user_admin.specs.Journals.{IsAtHome}
 use Rattle.user_admin.specs.Histories.{IsInDoubt, IsLegal, IsLegalFrom, IsReading, MayCome, Opening, change_in, changes_of, failure_in, failures, users_after}
@@ -58,7 +61,7 @@ legal_from sid m (x ∷ xs) e l may = (l.0, legal_from sid (after (change_in x.o
 pub legal_more : (o : Opening) (h : List UserEntry) (e : UserEntry) → IsLegal o h → MayCome o.shelf.sid e.op (users_after o h) e.outcome → IsLegal o (h ++ e ∷ [])
 legal_more o h e l may = record { opened = l.opened; entries = legal_from o.shelf.sid o.users h e l.entries may }
 
--- what is in doubt stays so behind an entry that changes nothing
+-- what is in doubt stays so after an entry that changes nothing
 pub doubt_more : (o : Opening) (h : List UserEntry) (e : UserEntry) (c : UserChange) → change_in e.outcome ≡ [] → IsInDoubt o h c → IsInDoubt o (h ++ e ∷ []) c
 doubt_more o h e c none d = record {
   before = d.before;
@@ -212,12 +215,15 @@ not_by_disk = by_users (λ q. refused q ≡ Denied q) refl refl refl refl refl
 pub asked_none : (op : UserOp) (users : Users) (q : Cause) → refusal op users ≡ Some q → asked_before q ≡ []
 asked_none = by_users (λ q. asked_before q ≡ []) refl refl refl refl refl
 
-abbrev stands_against : UserDone → Bool
-stands_against (done.Denied DiskFault) = true
+abbrev pub denies : Cause → Result UserDone Stopped
+denies q = Ok (done.Denied q)
+
+abbrev stands_against : Result UserDone Stopped → Bool
+stands_against (Ok (done.Denied DiskFault)) = true
 stands_against _ = false
 
-pub other_than_disk : (op : UserOp) (users : Users) (q : Cause) → refusal op users ≡ Some q → done.Denied q ≡ done.Denied DiskFault → ⊥
-other_than_disk op users q is same = never (by_users (λ q. stands_against (done.Denied q) ≡ false) refl refl refl refl refl op users q is) (ap stands_against same)
+pub other_than_disk : (op : UserOp) (users : Users) (q : Cause) → refusal op users ≡ Some q → denies q ≡ denies DiskFault → ⊥
+other_than_disk op users q is same = never (by_users (λ q. stands_against (denies q) ≡ false) refl refl refl refl refl op users q is) (ap stands_against same)
 
 -- what a state that stands for a history may keep
 pub record MayKeep (l : Lists) : Type 0 where
@@ -242,7 +248,7 @@ module _ {D : Type 0} (told : Type 0) (state : D → DiskState) (o : Opening) (s
   pub home_at : (doubt : Option UserChange) → IsAtHome told (state s.journal.0) s.journal.1 (shelf_users o.shelf) (users_after o h) doubt → IsAtHome told (state s.journal.0) s.journal.1 s.lists.value.described s.lists.value.users doubt
   home_at doubt home = subst (λ (w : Users × Users). IsAtHome told (state s.journal.0) s.journal.1 w.0 w.1 doubt) (λ i. (sym st.of_shelf.described i, sym st.users i)) home
 
-  -- a state behind it, of the same shelf
+  -- a state after it, of the same shelf
   module _ (t : UserState D) (sid : t.sid ≡ s.sid) (described : t.lists.value.described ≡ s.lists.value.described) (shape : t.journal.1.shape ≡ s.journal.1.shape) (disk : told → IsDisk (state t.journal.0)) (counts : CountsOn (state t.journal.0)) (whole : IsWhole t.journal.1) where
     of_shelf_on : IsOfShelf o t
     of_shelf_on = record { sid = sid ∙ st.of_shelf.sid; described = described ∙ st.of_shelf.described; shape = shape ∙ st.of_shelf.shape; few = st.of_shelf.few; spelled = st.of_shelf.spelled }

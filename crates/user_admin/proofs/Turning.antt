@@ -1,19 +1,20 @@
--- What a place sees in a turn, and behind it.
-use Rattle.std.proofs.Common.{◌≡◌, ◌≢◌, ◌<◌, ◌≤◌, ℕ, Bool, true, Option, None, Some, List, [], ◌∷◌, ◌++◌, append-nil, append_assoc, refl, sym, ◌∙◌, ap, subst}
+-- What a place sees in a turn, and after it.
+use Rattle.std.proofs.Common.{◌≡◌, ◌≢◌, ◌<◌, ℕ, Bool, true, false, Option, None, Some, Result, Ok, Err, List, [], ◌∷◌, ◌++◌, append-nil, append_assoc, refl, sym, ◌∙◌, ap, subst}
 use Rattle.std.proofs.lemmas.List.{map-append}
 use Rattle.std.specs.Prelude.{slice_get}
 use Rattle.std.specs.declared.snapshot.Snapshot.{Snapshot}
 use base.Stored.{Gv}
-use Rattle.turnstile.specs.Passing.{Gate, Token}
+use Rattle.turnstile.specs.Passing.{TurnstileView, Token}
 use Rattle.turnstile.specs.Turning.{Each, Found}
 use Rattle.turnstile.proofs.Lists.{each_append, map_once}
-use Rattle.dxc_causes.specs.Causes.{Rose}
+use Rattle.dxc_causes.specs.Stops.{RoseOnlyFor}
 use Rattle.dxc_disk.specs.Disks.{DiskState}
+use Rattle.dxc_outside.specs.declared.stopped.Stopped.{Stopped}
 use Rattle.user_admin.specs.declared.op.UserChange.{UserChange}
 use Rattle.user_admin.specs.declared.op.UserEntry.{UserEntry}
 use Rattle.user_admin.specs.declared.op.UserMark.{UserMark}
 use Rattle.user_admin.specs.declared.op.UserMark.TheVariants.{Entered, Took}
-use Rattle.user_admin.specs.declared.op.UserOp.{UserOp}
+use Rattle.tl1_users.specs.declared.op.UserOp.{UserOp}
 use Rattle.user_admin.specs.declared.op.UserOutcome.{UserOutcome}
 use Rattle.user_admin.specs.declared.shared.Planned.{Planned}
 use Rattle.user_admin.specs.declared.shared.Planned.TheVariants as planned
@@ -28,17 +29,18 @@ use Rattle.user_admin.specs.Marks.{entered, entries_of, entry_in, mark_for, plac
 use Rattle.user_admin.specs.Shared.{HasKeeper, PlannedIs, SharedFor, SharedStands, opening_at}
 use Rattle.user_admin.specs.declared.occupants.Occupant.{Occupant}
 use Rattle.user_admin.specs.Occupants.{is_out, occupants_after}
-use Rattle.user_admin.specs.Turns.{AreNumbered, HasPass, IsHistory, IsTaken, LookedAt, Saw, TakenIs, TriedIs, Turned, TurnedBack, codes}
+use Rattle.user_admin.specs.Turns.{AreNumbered, HasPass, IsHistory, IsTaken, LookedAt, Saw, TakenIs, TookIs, TriedIs, Turned, TurnedBack, codes}
+use Rattle.journal_core.proofs.HeaderSteps.{never}
 use Rattle.user_admin.proofs.Marking.{each_entries, entries_append, entries_one, entries_took, no_mark, others_entries, same_mark}
 
 -- a pass that comes back from a turn
-pub pass_back : {X : Type 0} (t : Gate X) (p q : Token) → HasPass t p → q.free ≡ true → q.id ≡ t.id → q.number ≡ p.number → AreNumbered t.passes q.seen → HasPass t q × (q.number ≡ p.number)
+pub pass_back : {X : Type 0} (t : TurnstileView X) (p q : Token) → HasPass t p → q.free ≡ true → q.id ≡ t.id → q.number ≡ p.number → AreNumbered t.passes q.seen → HasPass t q × (q.number ≡ p.number)
 pass_back t p q pass free id number numbered = ((free, id, subst (λ (n : ℕ). n < t.passes) (sym number) pass.2, numbered), number)
 
 pub same_marks : (seen : List Gv) (ms ns : List UserMark) → seen ≡ codes ms → seen ≡ codes ns → ms ≡ ns
 same_marks seen ms ns first then = map_once mark_coded.code mark_coded.inj ms ns (sym first ∙ then)
 
--- nothing was seen behind it
+-- nothing was seen after it
 pub turned_none : (o : Opening) (own : ℕ) (h : List UserEntry) (seen : List Gv) → Saw o seen h → TurnedBack o own h seen
 turned_none o own h seen saw = record { later = []; others = tt; saw = subst (λ (g : List UserEntry). Saw o seen g) (sym (append-nil h)) saw }
 
@@ -61,7 +63,7 @@ module _ {D : Type 0} (told : Type 0) (state : D → DiskState) where
   pub history_of : (o : Opening) (s : SharedUsers D) (ms : List UserMark) → SharedFor told state o s ms → IsHistory o (entries_of ms)
   history_of o s ms st = record { legal = st.legal; paid = st.paid }
 
-  -- a turn of the place finds a state that stands for what had been left, and for what others left behind it
+  -- a turn of the place finds a state that stands for what had been left, and for what others left after it
   pub record FoundAt (o : Opening) (own : ℕ) (ms : List UserMark) (x : SharedUsers D) (in_turn : List Gv) : Type 0 where
     pub later : List UserMark
     pub others : Each (λ m. place_of m ≢ own) later
@@ -74,7 +76,7 @@ module _ {D : Type 0} (told : Type 0) (state : D → DiskState) where
     leaves : (y : SharedUsers D) (l : List UserMark) → y.first ≡ x.first → SharedFor told state o y l → SharedStands told state y l
     leaves y l is st = subst (λ (z : Opening). SharedFor told state z y l) (sym (ap (λ (s : Snapshot (UserState D)). opening_of state s.value) is ∙ f.opening_is)) st
 
-    -- the entries among it, behind a history that was seen
+    -- the entries among it, after a history that was seen
     module _ (h : List UserEntry) (entries_are : entries_of ms ≡ h) where
       pub entries_found : entries_of (ms ++ f.later) ≡ h ++ entries_of f.later
       entries_found = entries_append ms f.later ∙ ap (λ (g : List UserEntry). g ++ entries_of f.later) entries_are
@@ -111,31 +113,31 @@ module _ {D : Type 0} (told : Type 0) (state : D → DiskState) where
       }
 
       -- a turn in which a change was to begin, that left something
-      pub took_left : (op : UserOp) (y : SharedUsers D) (p : Planned D) (m : UserMark) (then_seen : List Gv) → mark_for own op p ≡ Some m → PlannedIs told state o own op (ms ++ f.later) y p → then_seen ≡ in_turn ++ mark_coded.code m ∷ [] → TakenIs told state o own h op then_seen p
-      took_left op y (planned.Taken k c) m then_seen marked st is = taken_at op k.value c then_seen st.1 (is ∙ ap (λ (n : UserMark). in_turn ++ mark_coded.code n ∷ []) (sym (same_mark _ _ marked)))
-      took_left op y (planned.Denied q) m then_seen marked st is = turned_at y (entered own op (refused q)) (entry own op (refused q)) then_seen refl st (is ∙ ap (λ (n : UserMark). in_turn ++ mark_coded.code n ∷ []) (sym (same_mark _ _ marked)))
-      took_left op y planned.Stopped m then_seen marked st is = absurd (no_mark m marked)
-      took_left op y planned.Waits m then_seen marked st is = absurd (no_mark m marked)
+      pub took_left : (op : UserOp) (y : SharedUsers D) (p : Result (Planned D) Stopped) (m : UserMark) (then_seen : List Gv) → mark_for own op p ≡ Some m → PlannedIs told state o own op (ms ++ f.later) y p → then_seen ≡ in_turn ++ mark_coded.code m ∷ [] → TakenIs told state o own h op then_seen p
+      took_left op y (Ok (planned.Taken k c)) m then_seen marked st is = taken_at op k.value c then_seen st.1 (is ∙ ap (λ (n : UserMark). in_turn ++ mark_coded.code n ∷ []) (sym (same_mark _ _ marked)))
+      took_left op y (Ok (planned.Denied q)) m then_seen marked st is = turned_at y (entered own op (refused q)) (entry own op (refused q)) then_seen refl st (is ∙ ap (λ (n : UserMark). in_turn ++ mark_coded.code n ∷ []) (sym (same_mark _ _ marked)))
+      took_left op y (Ok planned.Waits) m then_seen marked st is = absurd (no_mark m marked)
+      took_left op y (Err e) m then_seen marked st is = absurd (no_mark m marked)
 
       -- or nothing
-      pub took_back : (op : UserOp) (y : SharedUsers D) (p : Planned D) (then_seen : List Gv) → mark_for own op p ≡ None → PlannedIs told state o own op (ms ++ f.later) y p → then_seen ≡ in_turn → TakenIs told state o own h op then_seen p
-      took_back op y (planned.Taken k c) then_seen marked st is = absurd (some_not_none _ marked)
-      took_back op y (planned.Denied q) then_seen marked st is = absurd (some_not_none _ marked)
-      took_back op y planned.Stopped then_seen marked st is = turned_back_at y then_seen st is
-      took_back op y planned.Waits then_seen marked st is = turned_back_at y then_seen st is
+      pub took_back : (op : UserOp) (y : SharedUsers D) (p : Result (Planned D) Stopped) (then_seen : List Gv) → mark_for own op p ≡ None → PlannedIs told state o own op (ms ++ f.later) y p → then_seen ≡ in_turn → TakenIs told state o own h op then_seen p
+      took_back op y (Ok (planned.Taken k c)) then_seen marked st is = absurd (some_not_none _ marked)
+      took_back op y (Ok (planned.Denied q)) then_seen marked st is = absurd (some_not_none _ marked)
+      took_back op y (Ok planned.Waits) then_seen marked st is = turned_back_at y then_seen st is
+      took_back op y (Err e) then_seen marked st is = turned_back_at y then_seen st is
 
   -- what the turn stands for then
-  pub left_by : (o : Opening) (own : ℕ) (op : UserOp) (l : List UserMark) (y : SharedUsers D) (p : Planned D) (m : UserMark) → mark_for own op p ≡ Some m → PlannedIs told state o own op l y p → SharedFor told state o y (l ++ m ∷ [])
-  left_by o own op l y (planned.Taken k c) m marked st = subst (λ (n : UserMark). SharedFor told state o y (l ++ n ∷ [])) (same_mark _ _ marked) st.0
-  left_by o own op l y (planned.Denied q) m marked st = subst (λ (n : UserMark). SharedFor told state o y (l ++ n ∷ [])) (same_mark _ _ marked) st
-  left_by o own op l y planned.Stopped m marked st = absurd (no_mark m marked)
-  left_by o own op l y planned.Waits m marked st = absurd (no_mark m marked)
+  pub left_by : (o : Opening) (own : ℕ) (op : UserOp) (l : List UserMark) (y : SharedUsers D) (p : Result (Planned D) Stopped) (m : UserMark) → mark_for own op p ≡ Some m → PlannedIs told state o own op l y p → SharedFor told state o y (l ++ m ∷ [])
+  left_by o own op l y (Ok (planned.Taken k c)) m marked st = subst (λ (n : UserMark). SharedFor told state o y (l ++ n ∷ [])) (same_mark _ _ marked) st.0
+  left_by o own op l y (Ok (planned.Denied q)) m marked st = subst (λ (n : UserMark). SharedFor told state o y (l ++ n ∷ [])) (same_mark _ _ marked) st
+  left_by o own op l y (Ok planned.Waits) m marked st = absurd (no_mark m marked)
+  left_by o own op l y (Err e) m marked st = absurd (no_mark m marked)
 
-  pub given_by : (o : Opening) (own : ℕ) (op : UserOp) (l : List UserMark) (y : SharedUsers D) (p : Planned D) → mark_for own op p ≡ None → PlannedIs told state o own op l y p → SharedFor told state o y l
-  given_by o own op l y (planned.Taken k c) marked st = absurd (some_not_none _ marked)
-  given_by o own op l y (planned.Denied q) marked st = absurd (some_not_none _ marked)
-  given_by o own op l y planned.Stopped marked st = st
-  given_by o own op l y planned.Waits marked st = st
+  pub given_by : (o : Opening) (own : ℕ) (op : UserOp) (l : List UserMark) (y : SharedUsers D) (p : Result (Planned D) Stopped) → mark_for own op p ≡ None → PlannedIs told state o own op l y p → SharedFor told state o y l
+  given_by o own op l y (Ok (planned.Taken k c)) marked st = absurd (some_not_none _ marked)
+  given_by o own op l y (Ok (planned.Denied q)) marked st = absurd (some_not_none _ marked)
+  given_by o own op l y (Ok planned.Waits) marked st = st
+  given_by o own op l y (Err e) marked st = st
 
   -- a turn of a place that had seen what turns left, by what its entering tells
   module _ (o : Opening) (own by passes : ℕ) (seen in_turn : List Gv) (x : SharedUsers D) (is : by ≡ own) (f : Found mark_coded.code (opening_at state) place_of (SharedStands told state) by passes o seen x in_turn) where
@@ -161,7 +163,7 @@ module _ {D : Type 0} (told : Type 0) (state : D → DiskState) where
     pub ends_at : (ms : List UserMark) (saw : seen ≡ codes ms) (y : SharedUsers D) (m : UserMark) → y.first ≡ x.first → SharedFor told state o y ((ms ++ (at_turn ms saw).later) ++ m ∷ []) → (l : List UserMark) × (in_turn ≡ codes l) × SharedStands told state y (l ++ m ∷ [])
     ends_at ms saw y m first st = let t = at_turn ms saw in (ms ++ t.later, t.codes_are, leaves o own ms x in_turn t y ((ms ++ t.later) ++ m ∷ []) first st)
 
-    -- what the place knows behind its entry
+    -- what the place knows after its entry
     abbrev pub ended : (h : List UserEntry) (saw : Saw o seen h) (y : SharedUsers D) (n : ℕ) (op : Snapshot UserOp) (what : UserOp) (out : UserOutcome) (then_seen : List Gv) → n ≡ own → op.value ≡ what → ((l : List UserMark) → SharedFor told state o x l → SharedFor told state o y (l ++ Entered n op out ∷ [])) → then_seen ≡ in_turn ++ mark_coded.code (Entered n op out) ∷ [] → Turned o own h (entry own what out) then_seen
     ended h saw y n op what out then_seen number same on seen_is =
         turned_at o own saw.marks x in_turn (at_turn saw.marks saw.codes_are) h saw.entries_are y (Entered n op out) (entry own what out) then_seen (λ i. entry (number i) (same i) out ∷ []) (on (saw.marks ++ (at_turn saw.marks saw.codes_are).later) (at_turn saw.marks saw.codes_are).stands) seen_is
@@ -178,14 +180,22 @@ module _ {D : Type 0} (told : Type 0) (state : D → DiskState) where
           is ∙ ap (λ (os : List Occupant). is_out (slice_get os own)) (t.stands.occupants ∙ ap occupants_after (entries_found o own saw.marks x in_turn t h saw.entries_are)),
         )
 
-    -- the pass behind it
-    pub ends_pass : {X : Type 0} (t : Gate X) (p q : Token) (m : UserMark) → passes ≡ t.passes → own ≡ p.number → HasPass t p → (q.free ≡ true) × (q.id ≡ t.id) × (q.number ≡ p.number) → place_of m ≡ own → q.seen ≡ in_turn ++ mark_coded.code m ∷ [] → HasPass t q × (q.number ≡ p.number)
+    -- the pass after it
+    pub ends_pass : {X : Type 0} (t : TurnstileView X) (p q : Token) (m : UserMark) → passes ≡ t.passes → own ≡ p.number → HasPass t p → (q.free ≡ true) × (q.id ≡ t.id) × (q.number ≡ p.number) → place_of m ≡ own → q.seen ≡ in_turn ++ mark_coded.code m ∷ [] → HasPass t q × (q.number ≡ p.number)
     ends_pass t p q m all place pass back number seen_is =
         pass_back t p q pass back.0 back.1 back.2 (subst (λ (k : ℕ). AreNumbered k q.seen) all (numbered_own o by passes seen in_turn x f own m q.seen number (subst (λ (k : ℕ). own < k) (sym all) (subst (λ (k : ℕ). k < t.passes) (sym place) pass.2)) seen_is))
 
--- others' entries, and then a change or no change
-pub tried_behind : (o : Opening) (own : ℕ) (h : List UserEntry) (op : UserOp) (mid then_seen : List Gv) (tried : Option UserTook) → TurnedBack o own h mid → ((g : List UserEntry) → Saw o mid g → TriedIs o own g op then_seen tried) → TriedIs o own h op then_seen tried
-tried_behind o own h op mid then_seen tried b next = behind tried (next (h ++ b.later) b.saw)
+-- others' entries, and then others' entries again
+pub back_behind : (o : Opening) (own : ℕ) (h : List UserEntry) (mid then_seen : List Gv) → TurnedBack o own h mid → ((g : List UserEntry) → Saw o mid g → TurnedBack o own g then_seen) → TurnedBack o own h then_seen
+back_behind o own h mid then_seen b next = let t = next (h ++ b.later) b.saw in record {
+  later = b.later ++ t.later;
+  others = each_append (λ (x : UserEntry). x.place ≢ own) b.later t.later b.others t.others;
+  saw = subst (λ (g : List UserEntry). Saw o then_seen g) (append_assoc h b.later t.later) t.saw;
+}
+
+-- or then a change, or a stop
+pub took_behind : (o : Opening) (own : ℕ) (h : List UserEntry) (op : UserOp) (mid then_seen : List Gv) (how : Result UserTook Stopped) → TurnedBack o own h mid → ((g : List UserEntry) → Saw o mid g → TookIs o own g op then_seen how) → TookIs o own h op then_seen how
+took_behind o own h op mid then_seen how b next = behind how next
   where
     all : (es fs : List UserEntry) → ((h ++ b.later) ++ es) ++ fs ≡ (h ++ (b.later ++ es)) ++ fs
     all es fs = ap (λ (g : List UserEntry). g ++ fs) (append_assoc h b.later es)
@@ -197,18 +207,20 @@ tried_behind o own h op mid then_seen tried b next = behind tried (next (h ++ b.
       saw = subst (λ (g : List UserEntry). Saw o then_seen g) (all t.later (e ∷ [])) t.saw;
     }
 
-    back : TurnedBack o own (h ++ b.later) then_seen → TurnedBack o own h then_seen
-    back t = record {
-      later = b.later ++ t.later;
-      others = each_append (λ (x : UserEntry). x.place ≢ own) b.later t.later b.others t.others;
-      saw = subst (λ (g : List UserEntry). Saw o then_seen g) (append_assoc h b.later t.later) t.saw;
-    }
+    behind : (t : Result UserTook Stopped) → ((g : List UserEntry) → Saw o mid g → TookIs o own g op then_seen t) → TookIs o own h op then_seen t
+    behind (Ok took.Done) then = let x = then (h ++ b.later) b.saw in (x.0, turned _ x.1)
+    behind (Ok (took.Denied q)) then = turned _ (then (h ++ b.later) b.saw)
+    behind (Err e) then = back_behind o own h mid then_seen b then
 
-    behind : (t : Option UserTook) → TriedIs o own (h ++ b.later) op then_seen t → TriedIs o own h op then_seen t
-    behind (Some took.Done) x = (x.0, turned _ x.1)
-    behind (Some (took.Denied q)) x = turned _ x
-    behind (Some took.Stopped) x = back x
-    behind None x = back x
+-- by what a change that was tried came to
+pub tried_some : (o : Opening) (own : ℕ) (h : List UserEntry) (op : UserOp) (seen : List Gv) (x : Option UserTook) (how : UserTook) → x ≡ Some how → TriedIs o own h op seen (Ok x) → TookIs o own h op seen (Ok how)
+tried_some o own h op seen x how is t = subst (λ (y : Option UserTook). TriedIs o own h op seen (Ok y)) is t
+
+pub tried_none : (o : Opening) (own : ℕ) (h : List UserEntry) (op : UserOp) (seen : List Gv) (x : Option UserTook) → x ≡ None → TriedIs o own h op seen (Ok x) → TurnedBack o own h seen
+tried_none o own h op seen x is t = subst (λ (y : Option UserTook). TriedIs o own h op seen (Ok y)) is t
+
+pub takes_as : {D : Type 0} (told : Type 0) (state : D → DiskState) (o : Opening) (own : ℕ) (h : List UserEntry) (op : UserOp) (seen : List Gv) (p q : Planned D) → p ≡ q → TakenIs told state o own h op seen (Ok p) → TakenIs told state o own h op seen (Ok q)
+takes_as {D} told state o own h op seen p q is t = subst (λ (x : Planned D). TakenIs told state o own h op seen (Ok x)) is t
 
 -- the keeper was taken out in one turn, and brought home in another
 pub turned_taken : {D : Type 0} (told : Type 0) (state : D → DiskState) (o : Opening) (own : ℕ) (h : List UserEntry) (op : UserOp) (mid then_seen : List Gv) (k : UserState D) (c : UserChange) (e : UserEntry) (t : IsTaken told state o own h op mid k c) → Turned o own (entries_of t.marks) e then_seen → Turned o own h e then_seen
@@ -218,18 +230,13 @@ turned_taken told state o own h op mid then_seen k c e t r = record {
   saw = subst (λ (g : List UserEntry). Saw o then_seen g) (ap (λ (g : List UserEntry). (g ++ r.later) ++ e ∷ []) t.entries_are ∙ ap (λ (g : List UserEntry). g ++ e ∷ []) (append_assoc h t.later r.later)) r.saw;
 }
 
+-- a gate that didn't stop
+pub stood : (a b : ℕ) → RoseOnlyFor a b (false ≡ true) → b ≡ a
+stood a b rose = rose.only (never refl)
+
 -- a gate that wasn't asked before
-pub rose_behind : (a b c : ℕ) → b ≡ a → Rose b c → Rose a c
-rose_behind a b c same rose = subst (λ (n : ℕ). Rose n c) same rose
-
-pub later_behind : (a b c : ℕ) → b ≡ a → b ≤ c → a ≤ c
-later_behind a b c same later = subst (λ (n : ℕ). n ≤ c) same later
-
-pub some_is : (a b : UserTook) → Some a ≡ Some b → a ≡ b
-some_is a b e = cc
-
-pub none_is : (a : UserTook) → None ≡ Some a → ⊥
-none_is a e = cc
+pub rose_behind : (a b c : ℕ) (came : Type 0) → b ≡ a → RoseOnlyFor b c came → RoseOnlyFor a c came
+rose_behind a b c came same rose = subst (λ (n : ℕ). RoseOnlyFor n c came) same rose
 
 -- the entries that were seen are of the turnstile's passes
 pub numbered_seen : (o : Opening) (passes : ℕ) (seen : List Gv) (h : List UserEntry) → Saw o seen h → AreNumbered passes seen → Each (λ e. e.place < passes) h

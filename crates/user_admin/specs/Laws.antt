@@ -6,14 +6,16 @@ use Rattle.std.specs.FinMap.{get, len}
 use Rattle.shelf_file.specs.Contents.{Contents, IsShelf}
 use Rattle.user_admin.specs.declared.op.User.{User}
 use Rattle.user_admin.specs.declared.op.UserEntry.{UserEntry}
-use Rattle.user_admin.specs.declared.op.UserOp.{UserOp}
+use Rattle.tl1_users.specs.declared.op.UserOp.{UserOp}
 use Rattle.user_admin.specs.declared.op.UserChange.{UserChange}
-use Rattle.user_admin.specs.Users.{Users, is_of_class_s, shelf_users}
+use Rattle.tl1_users.specs.Commands.{is_of_class_s}
+use Rattle.user_admin.specs.Users.{Users, shelf_users}
 use Rattle.user_admin.specs.Changes.{AllFit, Fits, after, effect, most_users}
 use Rattle.user_admin.specs.Verdicts.{Grants}
 use Rattle.user_admin.specs.Checkpoints.{rows}
 use Rattle.user_admin.specs.Records.{MayBeSpelled, Means, has_long_salt, spelling}
-use Rattle.user_admin.specs.Spellable.{AllSpellable, AreDescribed, AreSpellable, NamesUid}
+use Rattle.tl1_users.specs.Commands.{NamesUid}
+use Rattle.user_admin.specs.Spellable.{AllSpellable, AreDescribed, AreSpellable}
 use Rattle.user_admin.specs.Files.{AreMeant, FoldsTo, IsFileOn}
 use Rattle.user_admin.specs.Histories.{IsLegal, Opening, users_after}
 

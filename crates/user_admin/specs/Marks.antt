@@ -1,9 +1,10 @@
 -- What turns leave with the users' turnstile: the entries of their history, and who has the keeper.
-use Rattle.std.specs.Prelude.{◌≡◌, ℕ, Option, Some, None, List, [], ◌∷◌, ◌++◌}
+use Rattle.std.specs.Prelude.{◌≡◌, ℕ, Option, Some, None, Result, Ok, Err, List, [], ◌∷◌, ◌++◌}
+use Rattle.dxc_outside.specs.declared.stopped.Stopped.{Stopped}
 use Rattle.user_admin.specs.declared.op.UserEntry.{UserEntry}
 use Rattle.user_admin.specs.declared.op.UserMark.{UserMark}
 use Rattle.user_admin.specs.declared.op.UserMark.TheVariants.{Entered, Took}
-use Rattle.user_admin.specs.declared.op.UserOp.{UserOp}
+use Rattle.tl1_users.specs.declared.op.UserOp.{UserOp}
 use Rattle.user_admin.specs.declared.op.UserOutcome.{UserOutcome}
 use Rattle.user_admin.specs.declared.op.UserOutcome.TheVariants.{Done, Denied, Failed, Answered}
 use Rattle.user_admin.specs.declared.shared.Planned.{Planned}
@@ -69,8 +70,8 @@ ArePassing [] = Unit {0}
 ArePassing (e ∷ es) = PassesBy e.outcome × ArePassing es
 
 -- what a turn leaves in which a change was to begin; none where it is given back
-abbrev pub mark_for : {D : Type 0} → ℕ → UserOp → Planned D → Option UserMark
-mark_for n op (planned.Taken k c) = Some (Took n)
-mark_for n op (planned.Denied q) = Some (entered n op (refused q))
-mark_for n op planned.Stopped = None
-mark_for n op planned.Waits = None
+abbrev pub mark_for : {D : Type 0} → ℕ → UserOp → Result (Planned D) Stopped → Option UserMark
+mark_for n op (Ok (planned.Taken k c)) = Some (Took n)
+mark_for n op (Ok (planned.Denied q)) = Some (entered n op (refused q))
+mark_for n op (Ok planned.Waits) = None
+mark_for n op (Err e) = None

@@ -6,8 +6,8 @@ use Rattle.shelf_file.specs.Keys.{upper}
 use Rattle.user_admin.specs.declared.occupants.Occupant.{Occupant}
 use Rattle.user_admin.specs.declared.occupants.Occupant.TheVariants.{Nobody, User, Cancelled}
 use Rattle.user_admin.specs.declared.op.UserEntry.{UserEntry}
-use Rattle.user_admin.specs.declared.op.UserOp.{UserOp}
-use Rattle.user_admin.specs.declared.op.UserOp.TheVariants as op
+use Rattle.tl1_users.specs.declared.op.UserOp.{UserOp}
+use Rattle.tl1_users.specs.declared.op.UserOp.TheVariants as op
 use Rattle.user_admin.specs.declared.op.UserOutcome.{UserOutcome}
 use Rattle.user_admin.specs.declared.op.UserOutcome.TheVariants.{Done, Denied, Failed, Answered}
 

@@ -5,6 +5,7 @@ use Rattle.dxc_model.specs.declared.cause.Cause.{Cause}
 use Rattle.dxc_model.specs.declared.cause.Cause.TheVariants.{DiskFault}
 use Rattle.dxc_outside.specs.declared.gate.GatePlace.{GatePlace}
 use Rattle.dxc_outside.specs.declared.gate.GatePlace.TheVariants as place
+use Rattle.dxc_outside.specs.declared.stopped.Stopped.{Stopped}
 use Rattle.journal_core.specs.declared.fault.JournalWhy.TheVariants as why
 use Rattle.journal_core.specs.declared.head.Head.{Head}
 use Rattle.journal_core.specs.Headers.{IsNew, Stands as FileStands, StandsAlike, header}
@@ -16,7 +17,7 @@ use Rattle.user_admin.specs.declared.fault.UserOpenFault.TheVariants.{Journal, B
 use Rattle.user_admin.specs.declared.fold.FoldFault.{FoldFault}
 use Rattle.user_admin.specs.declared.fold.FoldFault.TheVariants as fold
 use Rattle.user_admin.specs.declared.op.UserDone.{UserDone}
-use Rattle.user_admin.specs.declared.op.UserDone.TheVariants.{Done, Denied, Stopped}
+use Rattle.user_admin.specs.declared.op.UserDone.TheVariants.{Done, Denied}
 use Rattle.user_admin.specs.declared.state.UserState.{UserState}
 use Rattle.user_admin.specs.declared.turns.UserTook.{UserTook}
 use Rattle.user_admin.specs.declared.turns.UserTook.TheVariants as took
@@ -92,19 +93,19 @@ pub record LeavesOpened (shelf : Contents) (a b : DiskState) : Type 0 where
   pub found : ¬ IsNew a.reads_as → LeavesOnly a b (λ c. a.may_leave c ⊎ StandsAlike shelf.shape a.reads_as c)
   pub made : IsNew a.reads_as → IsSettled a → LeavesOnly a b (IsFresh (header shelf.shape (made_head shelf.equipped)))
 
--- what denied an operation: the disk alone does so behind the gate
+-- what denied an operation: the disk alone does so after the gate
 abbrev pub asked_before : Cause → List GatePlace
 asked_before DiskFault = place.Journal ∷ []
 asked_before _ = []
 
 -- where a change asked the gate: before the journal is called, if it came to that
-abbrev pub asked_at : UserDone → List GatePlace
-asked_at (Done c) = place.Journal ∷ []
-asked_at (Denied q) = asked_before q
-asked_at Stopped = place.Journal ∷ []
+abbrev pub asked_at : Result UserDone Stopped → List GatePlace
+asked_at (Ok (Done c)) = place.Journal ∷ []
+asked_at (Ok (Denied q)) = asked_before q
+asked_at (Err e) = place.Journal ∷ []
 
 -- where a turn asked it in which the users were to be changed
-abbrev pub asked_at_turn : UserTook → List GatePlace
-asked_at_turn took.Done = place.Journal ∷ []
-asked_at_turn (took.Denied q) = asked_before q
-asked_at_turn took.Stopped = place.Journal ∷ []
+abbrev pub asked_at_turn : Result UserTook Stopped → List GatePlace
+asked_at_turn (Ok took.Done) = place.Journal ∷ []
+asked_at_turn (Ok (took.Denied q)) = asked_before q
+asked_at_turn (Err e) = place.Journal ∷ []

@@ -1,10 +1,11 @@
 -- Whether a place has the users' keeper out, by what its pass has seen.
-use Rattle.std.specs.Prelude.{◌≡◌, ◌≢◌, ℕ, List, Some, None}
+use Rattle.std.specs.Prelude.{◌≡◌, ◌≢◌, ℕ, List, Some, None, Result, Ok, Err}
 use base.Stored.{Gv}
 use Rattle.turnstile.specs.Passing.{Token}
+use Rattle.dxc_outside.specs.declared.stopped.Stopped.{Stopped}
 use Rattle.user_admin.specs.declared.op.UserMark.{UserMark}
 use Rattle.user_admin.specs.declared.shared.Planned.{Planned}
-use Rattle.user_admin.specs.declared.shared.Planned.TheVariants.{Taken, Denied, Stopped, Waits}
+use Rattle.user_admin.specs.declared.shared.Planned.TheVariants.{Taken, Denied, Waits}
 use Rattle.user_admin.specs.Marks.{holder}
 use Rattle.user_admin.specs.Turns.{codes}
 
@@ -20,9 +21,9 @@ SawRest own seen = (ms : List UserMark) → seen ≡ codes ms → Rests own ms
 abbrev pub IsAtRest : Token → Type 0
 IsAtRest p = SawRest p.number p.seen
 
--- nor behind a turn in which a change was to begin, unless the place took it out there
-abbrev pub RestsUnlessTaken : {D : Type 0} → Planned D → Token → Type 0
-RestsUnlessTaken (Taken k c) p = Unit {0}
-RestsUnlessTaken (Denied q) p = IsAtRest p
-RestsUnlessTaken Stopped p = IsAtRest p
-RestsUnlessTaken Waits p = IsAtRest p
+-- nor after a turn in which a change was to begin, unless the place took it out there
+abbrev pub RestsUnlessTaken : {D : Type 0} → Result (Planned D) Stopped → Token → Type 0
+RestsUnlessTaken (Ok (Taken k c)) p = Unit {0}
+RestsUnlessTaken (Ok (Denied q)) p = IsAtRest p
+RestsUnlessTaken (Ok Waits) p = IsAtRest p
+RestsUnlessTaken (Err e) p = IsAtRest p

@@ -1,19 +1,20 @@
 -- When the users that places share stand for what their turns left, and what is done with them within a turn.
-use Rattle.std.specs.Prelude.{◌≡◌, ℕ, Option, Some, None, List, [], ◌∷◌, ◌++◌, Box}
+use Rattle.std.specs.Prelude.{◌≡◌, ℕ, Option, Some, None, Result, Ok, Err, List, [], ◌∷◌, ◌++◌, Box}
 use Rattle.std.specs.declared.alloc.Global.{Global}
 use Rattle.std.specs.declared.snapshot.Snapshot.{Snapshot}
 use Rattle.dxc_disk.specs.Disks.{DiskState}
 use Rattle.dxc_disk.specs.declared.disk.Disk.{Ghosts as DiskOf}
 use Rattle.dxc_outside.specs.declared.gate.GatePlace.{GatePlace}
 use Rattle.dxc_outside.specs.declared.gate.GatePlace.TheVariants as place
+use Rattle.dxc_outside.specs.declared.stopped.Stopped.{Stopped}
 use Rattle.user_admin.specs.declared.op.UserChange.{UserChange}
 use Rattle.user_admin.specs.declared.op.UserEntry.{UserEntry}
 use Rattle.user_admin.specs.declared.op.UserMark.{UserMark}
 use Rattle.user_admin.specs.declared.op.UserMark.TheVariants.{Entered, Took}
-use Rattle.user_admin.specs.declared.op.UserOp.{UserOp}
+use Rattle.tl1_users.specs.declared.op.UserOp.{UserOp}
 use Rattle.user_admin.specs.declared.op.UserOutcome.{UserOutcome}
 use Rattle.user_admin.specs.declared.shared.Planned.{Planned}
-use Rattle.user_admin.specs.declared.shared.Planned.TheVariants.{Taken, Denied, Stopped, Waits}
+use Rattle.user_admin.specs.declared.shared.Planned.TheVariants.{Taken, Denied, Waits}
 use Rattle.user_admin.specs.declared.shared.SharedUsers.{SharedUsers}
 use Rattle.user_admin.specs.declared.state.UserState.{UserState}
 use Rattle.user_admin.specs.declared.turns.UserTook.{UserTook}
@@ -28,28 +29,29 @@ use Rattle.user_admin.specs.Marks.{ArePassing, KeepsTurns, entered, entries_of, 
 abbrev pub opening_at : {D : Type 0} → (D → DiskState) → SharedUsers D → Opening
 opening_at state s = opening_of state s.first.value
 
--- the keeper behind a box, as a turn finds it or hands it out
+-- the keeper in a box, as a turn finds it or hands it out
 abbrev pub Boxed : Type 0 → Type 0
 Boxed D = Box (UserState D) Global
 
 -- the keeper that was home before a turn in which a change was to begin
-abbrev pub keeper_left : {D : Type 0} → Option (Boxed D) → Planned D → Option (Boxed D)
-keeper_left home (Taken k c) = Some k
-keeper_left home (Denied q) = home
-keeper_left home Stopped = home
-keeper_left home Waits = home
+abbrev pub keeper_left : {D : Type 0} → Option (Boxed D) → Result (Planned D) Stopped → Option (Boxed D)
+keeper_left home (Ok (Taken k c)) = Some k
+keeper_left home (Ok (Denied q)) = home
+keeper_left home (Ok Waits) = home
+keeper_left home (Err e) = home
 
 -- where a turn asked the gate in which a change was to begin
-abbrev pub asked_by : {D : Type 0} → Planned D → List GatePlace
-asked_by (Taken k c) = place.Journal ∷ []
-asked_by (Denied q) = asked_before q
-asked_by Stopped = place.Journal ∷ []
-asked_by Waits = []
+abbrev pub asked_by : {D : Type 0} → Result (Planned D) Stopped → List GatePlace
+asked_by (Ok (Taken k c)) = place.Journal ∷ []
+asked_by (Ok (Denied q)) = asked_before q
+asked_by (Ok Waits) = []
+asked_by (Err e) = place.Journal ∷ []
 
 -- and where a change asked it, unless another place had the keeper
-abbrev pub asked_in : Option UserTook → List GatePlace
-asked_in (Some took) = asked_at_turn took
-asked_in None = []
+abbrev pub asked_in : Result (Option UserTook) Stopped → List GatePlace
+asked_in (Ok (Some took)) = asked_at_turn (Ok took)
+asked_in (Ok None) = []
+asked_in (Err e) = asked_at_turn (Err e)
 
 module _ {D : Type 0} (told : Type 0) (state : D → DiskState) where
   -- at home it stands for the history; or a place has it, and nothing is said of it
@@ -83,14 +85,14 @@ module _ {D : Type 0} (told : Type 0) (state : D → DiskState) where
     pub stands : (es : List UserEntry) → ArePassing es → IsLegal o (entries_of ms ++ es) → StandsFor told state o k ((entries_of ms ++ es) ++ entry own op out ∷ [])
 
   -- the state of a turn in which a change was to begin
-  abbrev pub PlannedIs : Opening → ℕ → UserOp → List UserMark → SharedUsers D → Planned D → Type 0
-  PlannedIs o own op ms s (Taken k c) = SharedFor o s (ms ++ Took own ∷ []) × HasKeeper o own op (ms ++ Took own ∷ []) k.value c
-  PlannedIs o own op ms s (Denied q) = SharedFor o s (ms ++ entered own op (refused q) ∷ [])
-  PlannedIs o own op ms s Stopped = SharedFor o s ms
-  PlannedIs o own op ms s Waits = SharedFor o s ms
+  abbrev pub PlannedIs : Opening → ℕ → UserOp → List UserMark → SharedUsers D → Result (Planned D) Stopped → Type 0
+  PlannedIs o own op ms s (Ok (Taken k c)) = SharedFor o s (ms ++ Took own ∷ []) × HasKeeper o own op (ms ++ Took own ∷ []) k.value c
+  PlannedIs o own op ms s (Ok (Denied q)) = SharedFor o s (ms ++ entered own op (refused q) ∷ [])
+  PlannedIs o own op ms s (Ok Waits) = SharedFor o s ms
+  PlannedIs o own op ms s (Err e) = SharedFor o s ms
 
 -- What is done within a turn, whatever history and whatever place that is.
-abbrev pub PlansFor : {D : Type 0} → DiskOf D → UserOp → SharedUsers D → SharedUsers D → Planned D → Type 0
+abbrev pub PlansFor : {D : Type 0} → DiskOf D → UserOp → SharedUsers D → SharedUsers D → Result (Planned D) Stopped → Type 0
 PlansFor g op s t planned = (o : Opening) (own : ℕ) (ms : List UserMark) → SharedFor g.told g.state o s ms → PlannedIs g.told g.state o own op ms t planned
 
 abbrev pub MayBring : {D : Type 0} → DiskOf D → UserOutcome → SharedUsers D → UserState D → Type 0

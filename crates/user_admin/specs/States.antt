@@ -7,13 +7,14 @@ use Rattle.dxc_disk.specs.declared.disk.Disk.{Ghosts as DiskOf}
 use Rattle.dxc_disk.specs.declared.disk.DiskFault.{DiskFault as Fault}
 use Rattle.dxc_model.specs.declared.cause.Cause.{Cause}
 use Rattle.dxc_model.specs.declared.cause.Cause.TheVariants.{DiskFault}
+use Rattle.dxc_outside.specs.declared.stopped.Stopped.{Stopped}
 use Rattle.journal_core.specs.declared.book.Book.{Book}
 use Rattle.journal_core.specs.Books.{IsWhole, listed}
 use Rattle.user_admin.specs.declared.op.UserChange.{UserChange}
 use Rattle.user_admin.specs.declared.op.UserDone.{UserDone}
 use Rattle.user_admin.specs.declared.op.UserDone.TheVariants as done
 use Rattle.user_admin.specs.declared.op.UserEntry.{UserEntry}
-use Rattle.user_admin.specs.declared.op.UserOp.{UserOp}
+use Rattle.tl1_users.specs.declared.op.UserOp.{UserOp}
 use Rattle.user_admin.specs.declared.op.UserOutcome.{UserOutcome}
 use Rattle.user_admin.specs.declared.op.UserOutcome.TheVariants.{Done, Denied, Failed, Answered}
 use Rattle.user_admin.specs.declared.state.UserOrigin.{UserOrigin}
@@ -21,7 +22,8 @@ use Rattle.user_admin.specs.declared.state.UserState.{UserState}
 use Rattle.user_admin.specs.Users.{shelf_users}
 use Rattle.user_admin.specs.Changes.{effect, most_users}
 use Rattle.user_admin.specs.Verdicts.{Grants}
-use Rattle.user_admin.specs.Spellable.{AreDescribed, AreSpellable, NamesUid}
+use Rattle.tl1_users.specs.Commands.{NamesUid}
+use Rattle.user_admin.specs.Spellable.{AreDescribed, AreSpellable}
 use Rattle.user_admin.specs.Files.{IsFileOn}
 use Rattle.user_admin.specs.Journals.{IsAtHome}
 use Rattle.user_admin.specs.Histories.{IsInDoubt, IsLegal, Opening, failures, users_after}
@@ -126,10 +128,10 @@ module _ {D : Type 0} (told : Type 0) (state : D → DiskState) where
   Stands s h = StandsFor (opening_of state s) s h
 
   -- a place's operation was done, or denied, or the gate stopped before anything was done
-  abbrev pub ChangedIs : Opening → List UserEntry → ℕ → UserOp → UserState D → UserDone → Type 0
-  ChangedIs o h n op s (done.Done c) = StandsFor o s (h ++ entry n op (Done c) ∷ [])
-  ChangedIs o h n op s (done.Denied q) = StandsFor o s (h ++ entry n op (refused q) ∷ [])
-  ChangedIs o h n op s done.Stopped = StandsFor o s h
+  abbrev pub ChangedIs : Opening → List UserEntry → ℕ → UserOp → UserState D → Result UserDone Stopped → Type 0
+  ChangedIs o h n op s (Ok (done.Done c)) = StandsFor o s (h ++ entry n op (Done c) ∷ [])
+  ChangedIs o h n op s (Ok (done.Denied q)) = StandsFor o s (h ++ entry n op (refused q) ∷ [])
+  ChangedIs o h n op s (Err e) = StandsFor o s h
 
   -- the users may keep this change: an operation is granted it
   pub record IsGranted (o : Opening) (h : List UserEntry) (op : UserOp) (s : UserState D) (c : UserChange) : Type 0 where
@@ -141,6 +143,19 @@ module _ {D : Type 0} (told : Type 0) (state : D → DiskState) where
   abbrev pub NotedIs : Opening → List UserEntry → ℕ → UserOp → UserChange → UserState D → Result (Unit {0}) Fault → Type 0
   NotedIs o h n op c s (Ok v) = StandsFor o s (h ++ entry n op (Done c) ∷ [])
   NotedIs o h n op c s (Err e) = StandsFor o s (h ++ entry n op (Failed DiskFault) ∷ [])
+
+-- an operation of a place after a history
+pub record Asked : Type 0 where
+  pub opening : Opening
+  pub history : List UserEntry
+  pub place : ℕ
+  pub op : UserOp
+
+abbrev pub asked_after : Opening → List UserEntry → ℕ → UserOp → Asked
+asked_after o h n op = record { opening = o; history = h; place = n; op = op }
+
+abbrev pub Answers : {D : Type 0} → DiskOf D → Asked → UserState D → Result UserDone Stopped → Type 0
+Answers g a s result = ChangedIs g.told g.state a.opening a.history a.place a.op s result
 
 abbrev pub MayNote : {D : Type 0} → DiskOf D → UserState D → UserChange → Type 0
 MayNote g s c = (o : Opening) × (h : List UserEntry) × (op : UserOp) × IsGranted g.told g.state o h op s c

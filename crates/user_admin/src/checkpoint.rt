@@ -1,16 +1,14 @@
 //! Writes the users into the area of their journal that isn't current, and turns to it.
-ghost use Rattle.std.specs.Prelude.{◌≡◌, ◌≤◌, ◌+◌, ◌++◌, [], true, false, length, map, Option, OnErr, OnOk, IsErr};
+ghost use Rattle.std.specs.Prelude.{◌≡◌, ◌≤◌, ◌+◌, ◌++◌, [], true, false, length, map, OnErr, OnOk, IsErr};
 ghost use Rattle.std.specs.FinMap.{len};
 ghost use Rattle.dxc_causes.specs.Causes.{HasCause};
-ghost use Rattle.dxc_disk.specs.Disks.{IsSound, LeavesOnly, Spends};
-ghost use Rattle.journal_core.specs.declared.spare.Spare.TheVariants.{Drafted, Open};
+ghost use Rattle.dxc_disk.specs.Disks.{IsSound, Spends};
+ghost use Rattle.journal_core.specs.declared.spare.SpareArea.TheVariants.{Drafted, Open};
 ghost use Rattle.journal_core.specs.Books.{IsReady, IsWhole, draft_of, is_drafted, rows};
-ghost use Rattle.user_admin.specs.declared.op.UserChange.{UserChange as Change};
 ghost use Rattle.user_admin.specs.Users.{Users};
 ghost use Rattle.user_admin.specs.Changes.{most_users};
 ghost use Rattle.user_admin.specs.Checkpoints.{rows as rows_of};
-ghost use Rattle.user_admin.specs.Files.{IsOldOrDoubted};
-ghost use Rattle.user_admin.specs.Journals.{IsAtHome};
+ghost use Rattle.user_admin.specs.Journals.{LeavesHome, StaysHome, lists};
 ghost use Rattle.user_admin.specs.Laws.{AreNamed};
 ghost use Rattle.user_admin.specs.Records.{spelling};
 ghost use Rattle.user_admin.specs.Spellable.{AreDescribed, AreSpellable};
@@ -37,13 +35,10 @@ fn add_rows<D: Disk>(journal: &mut Journal<D>, changes: &[UserChange]) -> Result
     ensures rows { D.told → OnOk result (rows journal.new.1 (D.state journal.new.0).reads_as ≡ rows
         journal.old.1 (D.state journal.old.0).reads_as ++ map spelling changes.now) }
     ensures whole { IsWhole journal.new.1 }
-    ensures home { (shelf users : Users) → (doubt : Option Change)
-        → IsAtHome D.told (D.state journal.old.0) journal.old.1 shelf users doubt
-        → IsAtHome D.told (D.state journal.new.0) journal.new.1 shelf users doubt }
-    ensures any_moment { D.told → (shelf users : Users) → (doubt : Option Change)
-        → IsAtHome D.told (D.state journal.old.0) journal.old.1 shelf users doubt
-        → LeavesOnly (D.state journal.old.0) (D.state journal.new.0)
-        (IsOldOrDoubted journal.old.1.shape shelf users doubt) }
+    ensures home { (shelf users : Users)
+        → StaysHome D.Disk journal.old journal.new (lists shelf users) }
+    ensures any_moment { D.told → (shelf users : Users)
+        → LeavesHome D.Disk journal.old journal.new (lists shelf users) }
     ensures cause { HasCause (D.state journal.old.0).faults (D.state journal.new.0).faults
         (IsErr result) }
     ensures room { Spends 4_224 (D.state journal.old.0) (D.state journal.new.0) }
@@ -80,13 +75,10 @@ fn add_all<D: Disk>(
     ensures rows { D.told → OnOk result (rows journal.new.1 (D.state journal.new.0).reads_as ≡ map
         spelling (rows_of described.now users.now)) }
     ensures whole { IsWhole journal.new.1 }
-    ensures home { (shelf users : Users) → (doubt : Option Change)
-        → IsAtHome D.told (D.state journal.old.0) journal.old.1 shelf users doubt
-        → IsAtHome D.told (D.state journal.new.0) journal.new.1 shelf users doubt }
-    ensures any_moment { D.told → (shelf users : Users) → (doubt : Option Change)
-        → IsAtHome D.told (D.state journal.old.0) journal.old.1 shelf users doubt
-        → LeavesOnly (D.state journal.old.0) (D.state journal.new.0)
-        (IsOldOrDoubted journal.old.1.shape shelf users doubt) }
+    ensures home { (shelf users : Users)
+        → StaysHome D.Disk journal.old journal.new (lists shelf users) }
+    ensures any_moment { D.told → (shelf users : Users)
+        → LeavesHome D.Disk journal.old journal.new (lists shelf users) }
     ensures cause { HasCause (D.state journal.old.0).faults (D.state journal.new.0).faults
         (IsErr result) }
     ensures room { Spends 12_672 (D.state journal.old.0) (D.state journal.new.0) }
@@ -114,19 +106,15 @@ pub(crate) fn write_checkpoint<D: Disk>(
     requires spelled { AreDescribed described.now × AreSpellable described.now users.now }
     requires named { AreNamed described.now × AreNamed users.now }
     requires few { len users.now ≤ most_users }
-    ensures home { (doubt : Option Change)
-        → IsAtHome D.told (D.state journal.old.0) journal.old.1 described.now users.now doubt
-        → IsAtHome D.told (D.state journal.new.0) journal.new.1 described.now users.now doubt }
+    ensures home { StaysHome D.Disk journal.old journal.new (lists described.now users.now) }
     ensures ready { OnOk result (IsReady journal.new.1) }
     ensures shape { journal.new.1.shape ≡ journal.old.1.shape }
     // The new header names the modules that the old one named.
     ensures equipped { journal.new.1.head.equipped ≡ journal.old.1.head.equipped }
     ensures book { IsWhole journal.new.1 }
     ensures whole { journal.old.1.to_mend ≡ false → journal.new.1.to_mend ≡ false }
-    ensures any_moment { D.told → (doubt : Option Change)
-        → IsAtHome D.told (D.state journal.old.0) journal.old.1 described.now users.now doubt
-        → LeavesOnly (D.state journal.old.0) (D.state journal.new.0)
-        (IsOldOrDoubted journal.old.1.shape described.now users.now doubt) }
+    ensures any_moment { D.told
+        → LeavesHome D.Disk journal.old journal.new (lists described.now users.now) }
     ensures cause { HasCause (D.state journal.old.0).faults (D.state journal.new.0).faults
         (IsErr result) }
     ensures room { Spends 4_207_144 (D.state journal.old.0) (D.state journal.new.0) }

@@ -6,8 +6,8 @@ ghost use Rattle.dxc_disk.specs.Disks.{IsSound, LeavesOnly, Spends};
 ghost use Rattle.journal_core.specs.Books.{IsReady, IsWhole};
 ghost use Rattle.user_admin.specs.declared.op.UserChange.{UserChange as Change};
 ghost use Rattle.user_admin.specs.Changes.{Fits, effect, most_users};
-ghost use Rattle.user_admin.specs.Files.{IsOldOrDoubted, IsOldOrOneMore};
-ghost use Rattle.user_admin.specs.Journals.{IsAtHome};
+ghost use Rattle.user_admin.specs.Files.{IsOldOrOneMore};
+ghost use Rattle.user_admin.specs.Journals.{IsHome, LeavesHome, StaysHome, lists};
 ghost use Rattle.user_admin.specs.Laws.{AreNamed};
 ghost use Rattle.user_admin.specs.Records.{MayBeSpelled, has_long_salt};
 ghost use Rattle.user_admin.specs.Spellable.{AreDescribed, AreSpellable};
@@ -28,17 +28,13 @@ fn make_ready<D: Disk>(
     requires spelled { AreDescribed described.now × AreSpellable described.now users.now }
     requires named { AreNamed described.now × AreNamed users.now }
     requires few { len users.now ≤ most_users }
-    ensures home { (doubt : Option Change)
-        → IsAtHome D.told (D.state journal.old.0) journal.old.1 described.now users.now doubt
-        → IsAtHome D.told (D.state journal.new.0) journal.new.1 described.now users.now doubt }
+    ensures home { StaysHome D.Disk journal.old journal.new (lists described.now users.now) }
     ensures ready { OnOk result (IsReady journal.new.1 × (journal.new.1.to_mend ≡ false)) }
     ensures shape { journal.new.1.shape ≡ journal.old.1.shape }
     ensures equipped { journal.new.1.head.equipped ≡ journal.old.1.head.equipped }
     ensures book { IsWhole journal.new.1 }
-    ensures any_moment { D.told → (doubt : Option Change)
-        → IsAtHome D.told (D.state journal.old.0) journal.old.1 described.now users.now doubt
-        → LeavesOnly (D.state journal.old.0) (D.state journal.new.0)
-        (IsOldOrDoubted journal.old.1.shape described.now users.now doubt) }
+    ensures any_moment { D.told
+        → LeavesHome D.Disk journal.old journal.new (lists described.now users.now) }
     ensures still { IsReady journal.old.1 × (journal.old.1.to_mend ≡ false)
         → journal.new ≡ journal.old }
     ensures cause { HasCause (D.state journal.old.0).faults (D.state journal.new.0).faults
@@ -72,19 +68,18 @@ pub(crate) fn keep<D: Disk>(
     requires fits { Fits change.now users.now }
     requires meant { MayBeSpelled described.now (has_long_salt change.now) change.now }
     ensures kept { OnOk result ((doubt then_doubt : Option Change)
-        → IsAtHome D.told (D.state journal.old.0) journal.old.1 described.now users.now doubt
-        → IsAtHome D.told (D.state journal.new.0) journal.new.1 described.now
-        (effect change.now users.now) then_doubt) }
-    ensures failed { OnErr result ((doubt : Option Change) → IsAtHome D.told (D.state journal.old.0)
-        journal.old.1 described.now users.now doubt → IsAtHome D.told (D.state journal.new.0)
-        journal.new.1 described.now users.now doubt ⊎ IsAtHome D.told (D.state journal.new.0)
-        journal.new.1 described.now users.now (Some change.now)) }
+        → IsHome D.Disk journal.old (lists described.now users.now) doubt → IsHome D.Disk
+        journal.new (lists described.now (effect change.now users.now)) then_doubt) }
+    ensures failed { OnErr result ((doubt : Option Change)
+        → IsHome D.Disk journal.old (lists described.now users.now) doubt
+        → IsHome D.Disk journal.new (lists described.now users.now) doubt
+        ⊎ IsHome D.Disk journal.new (lists described.now users.now) (Some change.now)) }
     ensures shape { journal.new.1.shape ≡ journal.old.1.shape }
     ensures equipped { journal.new.1.head.equipped ≡ journal.old.1.head.equipped }
     ensures book { IsWhole journal.new.1 }
     // A crash at any moment leaves the users as they were, with the change in doubt or not, or with this one.
     ensures any_moment { D.told → (doubt : Option Change)
-        → IsAtHome D.told (D.state journal.old.0) journal.old.1 described.now users.now doubt
+        → IsHome D.Disk journal.old (lists described.now users.now) doubt
         → LeavesOnly (D.state journal.old.0) (D.state journal.new.0)
         (IsOldOrOneMore journal.old.1.shape described.now users.now doubt change.now) }
     ensures cause { HasCause (D.state journal.old.0).faults (D.state journal.new.0).faults

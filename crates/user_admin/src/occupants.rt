@@ -3,11 +3,11 @@ ghost use Rattle.std.specs.Prelude.{◌≡◌, map, slice_get};
 ghost use Rattle.shelf_file.specs.Keys.{upper as in_upper_case};
 ghost use Rattle.user_admin.specs.Occupants.{answered, is_out, logged_in, nobody_yet as nobody, without as left_without};
 
-use crate::op::UserOp;
 use crate::secret::upper;
 use dxc_model::Uid;
+use tl1_users::UserOp;
 
-/// So many places are kept: sessions at a place behind these aren't ended by others.
+/// So many places are kept: sessions at a place beyond these aren't ended by others.
 const PLACES: usize = 64;
 
 /// Who logged in at a place last, and whether the user's sessions were ended since. A log-out isn't told.
@@ -68,7 +68,7 @@ fn cancel(occupants: &mut Occupants, uid: Uid)
     }
 }
 
-/// Puts down who is where behind an operation of the place that is answered.
+/// Puts down who is where after an operation of the place that is answered.
 // In line, so that an operation which names a user alone needs no room: the room of any other, which has two PIDs, is cleared.
 #[inline(always)]
 pub(crate) fn answer(occupants: &mut Occupants, place: u16, op: &UserOp)

@@ -1,6 +1,6 @@
 //! What places share of the users: a list of them, and the keeper where nobody has it.
-ghost use Rattle.std.specs.Prelude.{◌≡◌, ◌≢◌, ◌≤◌, [], None, Some, IfOk};
-ghost use Rattle.dxc_causes.specs.Causes.{Rose};
+ghost use Rattle.std.specs.Prelude.{◌≡◌, [], None, Some, Ok, IfOk, IsErr};
+ghost use Rattle.dxc_causes.specs.Stops.{RoseOnlyFor};
 ghost use Rattle.user_admin.specs.declared.op.UserChange.{UserChange as Change};
 ghost use Rattle.user_admin.specs.Changes.{Fits, after};
 ghost use Rattle.user_admin.specs.Histories.{change_in};
@@ -11,17 +11,18 @@ ghost use Rattle.user_admin.specs.States.{Stands, refused as refused_by};
 ghost use Rattle.user_admin.specs.Verdicts.{IsChanging, refusal};
 
 use crate::occupants::{Occupants, answer, nobody_yet};
-use crate::op::{UserChange, UserMark, UserOp, UserOutcome};
+use crate::op::{UserChange, UserMark, UserOutcome};
 use crate::state::{UserState, copy_of};
 use crate::table::UserTable;
 use dxc_causes::NoMemory;
 use dxc_disk::Disk;
 use dxc_model::Cause;
-use dxc_outside::{Gate, GatePlace, Pass1};
+use dxc_outside::{Gate, GatePlace, Stopped};
 use std::alloc::Global;
 use std::mem;
 use std::snapshot::Snapshot;
 use tl1_text::Sid;
+use tl1_users::UserOp;
 use turnstile::Sequential;
 
 /// The users that places share. A place takes the keeper out, which is the users with their journal, for a change; so no turn calls the journal's
@@ -64,8 +65,6 @@ pub(crate) enum Planned<D: Disk> {
     /// The place has the keeper, and this is the change.
     Taken(Box<UserState<D>>, UserChange),
     Denied(Cause),
-    /// The gate stopped.
-    Stopped,
     /// Another place has the keeper.
     Waits,
 }
@@ -94,32 +93,30 @@ impl<D: Disk + Drop> SharedUsers<D> {
 
     /// Begins a change in a turn: what the users deny is denied whoever has the keeper; else it is taken out, where it is home and the gate lets
     /// it. Its journal isn't called.
-    pub(crate) fn plan<G: Gate>(&mut self, op: &UserOp, gate: &mut G) -> Planned<D>
+    pub(crate) fn plan<G: Gate>(&mut self, op: &UserOp, gate: &mut G) -> Result<Planned<D>, Stopped>
         requires changing { IsChanging op.now }
         ensures planned { PlansFor D.Disk op.now self.old self.new result }
         ensures first { self.new.first ≡ self.old.first }
         // The keeper is as it was, at home or out: no call on the disk.
         ensures still { keeper_left self.new.keeper result ≡ self.old.keeper }
         // It waits for another place alone, and not to be denied.
-        ensures waits { result ≡ Planned.Waits
+        ensures waits { result ≡ Ok Planned.Waits
             → (refusal op.now self.old.list ≡ None) × (self.old.keeper ≡ None) }
-        ensures stopped { result ≡ Planned.Stopped → Rose (G.stops gate.old) (G.stops gate.new) }
-        ensures unstopped { result ≢ Planned.Stopped → G.stops gate.new ≡ G.stops gate.old }
-        ensures later { G.stops gate.old ≤ G.stops gate.new }
+        ensures stopped { RoseOnlyFor (G.stops gate.old) (G.stops gate.new) (IsErr result) }
         ensures asked { G.asked gate.old gate.new (asked_by result) }
     {
         let change = match self.list.verdict(&self.sid, op) {
             Ok(change) => change,
-            Err(cause) => return Planned::Denied(cause),
+            Err(cause) => return Ok(Planned::Denied(cause)),
         };
         let Some(keeper) = mem::replace(&mut self.keeper, None) else {
-            return Planned::Waits;
+            return Ok(Planned::Waits);
         };
         match gate.pass(GatePlace::Journal) {
-            Pass1::Go => Planned::Taken(keeper, change),
-            Pass1::Stop => {
+            Ok(()) => Ok(Planned::Taken(keeper, change)),
+            Err(Stopped) => {
                 self.keeper = Some(keeper);
-                Planned::Stopped
+                Err(Stopped)
             }
         }
     }
@@ -135,7 +132,7 @@ impl<D: Disk + Drop> SharedUsers<D> {
         self.keeper = Some(keeper);
     }
 
-    /// Puts down who is where behind an operation of the place that is answered.
+    /// Puts down who is where after an operation of the place that is answered.
     #[inline(always)]
     pub(crate) fn answer(&mut self, place: u16, op: &UserOp)
         ensures { self.new ≡ record self.old
@@ -167,9 +164,17 @@ pub(crate) fn refused(cause: Cause) -> UserOutcome
 }
 
 /// What a turn leaves in which a change was to begin; None where it is given back.
-pub(crate) fn mark_of<D: Disk>(place: u16, op: &UserOp, planned: &Planned<D>) -> Option<UserMark>
+pub(crate) fn mark_of<D: Disk>(
+    place: u16,
+    op: &UserOp,
+    planned: &Result<Planned<D>, Stopped>,
+) -> Option<UserMark>
     ensures { result ≡ mark_for place op.now planned.now }
 {
+    let planned = match planned {
+        Ok(planned) => planned,
+        Err(Stopped) => return None,
+    };
     match planned {
         Planned::Taken(_, _) => Some(UserMark::Took(place)),
         Planned::Denied(cause) => Some(UserMark::Entered {
@@ -177,6 +182,6 @@ pub(crate) fn mark_of<D: Disk>(place: u16, op: &UserOp, planned: &Planned<D>) ->
             op: Snapshot::of(op),
             outcome: refused(*cause),
         }),
-        Planned::Stopped | Planned::Waits => None,
+        Planned::Waits => None,
     }
 }

@@ -1,33 +1,35 @@
 //! The state of the users: who they are, and their journal.
-ghost use Rattle.std.specs.Prelude.{◌≡◌, ◌≢◌, ◌≤◌, ◌<◌, ◌⊎◌, ℕ, List, [], None, false, length, option_map, slice_get, MatchResult, Some, IfErr, IfOk, IfSome, IsErr};
+ghost use Rattle.std.specs.Prelude.{◌≡◌, ◌≢◌, ◌≤◌, ◌<◌, ◌⊎◌, ℕ, List, [], None, false, length, option_map, slice_get, MatchResult, Some, IfErr, IfOk, IfSome, IsErr, Ok};
 ghost use Rattle.std.specs.FinMap.{entries};
-ghost use Rattle.dxc_causes.specs.Causes.{HasCause, Rose};
+ghost use Rattle.dxc_causes.specs.Causes.{HasCause};
+ghost use Rattle.dxc_causes.specs.Stops.{RoseOnlyFor};
 ghost use Rattle.dxc_disk.specs.Disks.{IsSound, LeavesOnly, Spends};
 ghost use Rattle.journal_core.specs.Books.{IsReady};
 ghost use Rattle.user_admin.specs.declared.op.UserEntry.{UserEntry as Entry};
 ghost use Rattle.user_admin.specs.Histories.{Opening};
 ghost use Rattle.user_admin.specs.Openings.{Begins, Fails, IsDiskErr, IsOpening, LeavesOpened, asked_at, disk_left, read_fault};
-ghost use Rattle.user_admin.specs.Spellable.{NamesUid};
+ghost use Rattle.tl1_users.specs.Commands.{NamesUid};
 ghost use Rattle.user_admin.specs.Users.{shelf_users};
-ghost use Rattle.user_admin.specs.declared.op.UserOp.{UserOp as Op};
-ghost use Rattle.user_admin.specs.States.{ChangedIs, IsFileAfter, IsFileWithChange, IsNoted, MayNote, StandsFor, opening_of};
+ghost use Rattle.tl1_users.specs.declared.op.UserOp.{UserOp as Op};
+ghost use Rattle.user_admin.specs.States.{Answers, IsFileAfter, IsFileWithChange, IsNoted, MayNote, StandsFor, asked_after, opening_of};
 ghost use Rattle.user_admin.specs.Verdicts.{Grants, IsChanging, login, refusal, rows_in};
 
 use crate::fault::UserOpenFault;
 use crate::fold::{FoldFault, fold};
 use crate::keep::keep;
-use crate::op::{User, UserChange, UserDone, UserOp, UserRows};
+use crate::op::{User, UserChange, UserDone, UserRows};
 use crate::secret::copy_as;
 use crate::table::UserTable;
 use dxc_causes::NoMemory;
 use dxc_disk::{Disk, DiskFault};
 use dxc_model::{Cause, Class, Uid};
-use dxc_outside::{Gate, GatePlace, Pass1};
+use dxc_outside::{Gate, GatePlace, Stopped};
 use journal_core::Journal;
 use shelf_file::Shelf;
 use std::alloc::Global;
 use std::snapshot::Snapshot;
 use tl1_text::Sid;
+use tl1_users::UserOp;
 
 /// The users that the shelf describes, and those that are kept.
 #[derive(Drop)]
@@ -148,49 +150,44 @@ impl<D: Disk> UserState<D> {
     ///
     /// Where the journal's area is full or of an earlier version, a checkpoint of the users is written first. It takes at most 4,207,216 of
     /// the disk's room, and no memory.
-    pub fn change<G: Gate>(&mut self, op: &UserOp, gate: &mut G) -> UserDone
+    pub fn change<G: Gate>(&mut self, op: &UserOp, gate: &mut G) -> Result<UserDone, Stopped>
         requires changing { IsChanging op.now }
         requires named { NamesUid op.now }
         requires stands { (o : Opening) × (h : List Entry) × StandsFor D.told D.state o self.old h }
         ensures changed { (o : Opening) → (h : List Entry) → (place : ℕ)
             → StandsFor D.told D.state o self.old h
-            → ChangedIs D.told D.state o h place op.now self.new result }
+            → Answers D.Disk (asked_after o h place op.now) self.new result }
         ensures origin { self.new.origin ≡ self.old.origin }
         // The journal's header names the modules that it named.
         ensures equipped { self.new.journal.1.head.equipped ≡ self.old.journal.1.head.equipped }
         // What the users deny makes no call on the disk, nor does what the gate stops.
         ensures denied_still { asked_at result ≡ [] → self.new.journal ≡ self.old.journal }
-        ensures stopped_still { result ≡ UserDone.Stopped → self.new.journal ≡ self.old.journal }
+        ensures stopped_still { IsErr result → self.new.journal ≡ self.old.journal }
         // A crash at any moment leaves the users as they were, with the change in doubt or not, or with this one.
         ensures any_moment { D.told → (o : Opening) → (h : List Entry)
             → StandsFor D.told D.state o self.old h
             → LeavesOnly (D.state self.old.journal.0) (D.state self.new.journal.0)
             (λ file. IsFileAfter o h file ⊎ IsFileWithChange o h op.now file) }
-        ensures stopped { result ≡ UserDone.Stopped → Rose (G.stops gate.old) (G.stops gate.new) }
-        ensures unstopped { result ≢ UserDone.Stopped → G.stops gate.new ≡ G.stops gate.old }
-        ensures later { G.stops gate.old ≤ G.stops gate.new }
+        ensures stopped { RoseOnlyFor (G.stops gate.old) (G.stops gate.new) (IsErr result) }
         ensures asked { G.asked gate.old gate.new (asked_at result) }
         ensures fault { HasCause (D.state self.old.journal.0).faults
-            (D.state self.new.journal.0).faults (result ≡ UserDone.Denied Cause.DiskFault) }
+            (D.state self.new.journal.0).faults (result ≡ Ok (UserDone.Denied Cause.DiskFault)) }
         ensures room { Spends 4_207_216 (D.state self.old.journal.0) (D.state self.new.journal.0) }
         // Where no checkpoint is due and no record is in doubt, it is a record's.
         ensures short { IsReady self.old.journal.1 × (self.old.journal.1.to_mend ≡ false)
             → Spends 69 (D.state self.old.journal.0) (D.state self.new.journal.0) }
         ensures sound { IsSound 4_207_216 (D.state self.old.journal.0)
-            → result ≢ UserDone.Denied Cause.DiskFault }
+            → result ≢ Ok (UserDone.Denied Cause.DiskFault) }
     {
         let lists = &*self.lists;
         let change = match lists.users.verdict(&self.sid, op) {
             Ok(change) => change,
-            Err(cause) => return UserDone::Denied(cause),
+            Err(cause) => return Ok(UserDone::Denied(cause)),
         };
-        match gate.pass(GatePlace::Journal) {
-            Pass1::Stop => return UserDone::Stopped,
-            Pass1::Go => {}
-        }
+        gate.pass(GatePlace::Journal)?;
         match self.note(&change) {
-            Ok(()) => UserDone::Done(change),
-            Err(DiskFault) => UserDone::Denied(Cause::DiskFault),
+            Ok(()) => Ok(UserDone::Done(change)),
+            Err(DiskFault) => Ok(UserDone::Denied(Cause::DiskFault)),
         }
     }
 

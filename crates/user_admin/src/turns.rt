@@ -1,24 +1,24 @@
 //! The turns of a place with the users: each enters, does one thing with their state, and leaves with the place's entry.
-ghost use Rattle.std.specs.Prelude.{◌≡◌, ◌≢◌, ◌≤◌, List, MatchResult, Some};
-ghost use Rattle.dxc_causes.specs.Causes.{Rose};
-ghost use Rattle.user_admin.specs.declared.op.UserEntry.{UserEntry as Entry};
+ghost use Rattle.std.specs.Prelude.{◌≡◌, IsErr};
+ghost use Rattle.dxc_causes.specs.Stops.{RoseOnlyFor};
 ghost use Rattle.user_admin.specs.Openings.{asked_at_turn};
-ghost use Rattle.user_admin.specs.Spellable.{NamesUid};
+ghost use Rattle.tl1_users.specs.Commands.{NamesUid};
 ghost use Rattle.user_admin.specs.Resting.{IsAtRest, RestsUnlessTaken};
-ghost use Rattle.user_admin.specs.Shared.{asked_by, asked_in, opening_at};
-ghost use Rattle.user_admin.specs.Turns.{After, Brings, Cancels, HasPass, HasSeen, IsKept, LoggedIn, LookedAt, OutUpon, OutAfter, RowsAre, RowsDenied, Saw, Takes, TookIs, Tries};
+ghost use Rattle.user_admin.specs.Shared.{asked_by, asked_in};
+ghost use Rattle.user_admin.specs.Turns.{After, Brings, HasPass, HasSeen, IsKept, LogsIn, Looks, OutUpon, OutAfter, PutsOut, Reads, Takes, Took, Tries};
 ghost use Rattle.user_admin.specs.Occupants.{login_op as entered_as};
 ghost use Rattle.user_admin.specs.Verdicts.{IsChanging};
 
 use crate::occupants::has_ended;
-use crate::op::{UserMark, UserOp, UserOutcome, UserRows};
+use crate::op::{UserMark, UserOutcome, UserRows};
 use crate::shared::{Planned, SharedUsers, mark_of, refused};
 use crate::state::UserState;
 use dxc_disk::{Disk, DiskFault};
 use dxc_model::{Cause, Class, Uid};
-use dxc_outside::Gate;
+use dxc_outside::{Gate, Stopped};
 use std::snapshot::Snapshot;
 use std::sync::Wait;
+use tl1_users::UserOp;
 use turnstile::{Pass, Rest, Turnstile};
 
 /// What came of a change of the users.
@@ -26,8 +26,6 @@ use turnstile::{Pass, Rest, Turnstile};
 pub enum UserTook {
     Done,
     Denied(Cause),
-    /// The gate stopped before anything was done.
-    Stopped,
 }
 
 /// Makes the change of a changing operation. What the users deny is denied in one turn. Else the keeper is taken out in it, the change is kept in
@@ -39,23 +37,21 @@ pub fn change<D: Disk + Drop, G: Gate, R: Wait>(
     op: UserOp,
     gate: &mut G,
     rt: &R,
-) -> UserTook
+) -> Result<UserTook, Stopped>
     requires pass { HasPass turns.now pass.old }
     requires changing { IsChanging op }
     requires named { NamesUid op }
-    requires seen { (h : List Entry) × Saw (opening_at D.state turns.now.first) pass.old.seen h }
+    requires seen { HasSeen D.Disk turns.now pass.old }
     ensures pass { HasPass turns.now pass.new × (pass.new.number ≡ pass.old.number) }
     ensures rests { IsAtRest pass.old → IsAtRest pass.new }
-    ensures took { (h : List Entry) → Saw (opening_at D.state turns.now.first) pass.old.seen h
-        → TookIs (opening_at D.state turns.now.first) pass.old.number h op pass.new.seen result }
-    ensures stopped { result ≡ UserTook.Stopped → Rose (G.stops gate.old) (G.stops gate.new) }
-    ensures unstopped { result ≢ UserTook.Stopped → G.stops gate.new ≡ G.stops gate.old }
-    ensures later { G.stops gate.old ≤ G.stops gate.new }
+    ensures took { After D.Disk turns.now pass.old (Took op pass.new result) }
+    ensures stopped { RoseOnlyFor (G.stops gate.old) (G.stops gate.new) (IsErr result) }
     ensures asked { G.asked gate.old gate.new (asked_at_turn result) }
 {
     match try_change(pass, turns, &op, gate, rt) {
-        Some(took) => took,
-        None => {
+        Ok(Some(took)) => Ok(took),
+        Err(Stopped) => Err(Stopped),
+        Ok(None) => {
             turns.stand_in_line(rt);
             let took = change_in_line(pass, turns, &op, gate, rt);
             turns.step_aside();
@@ -72,24 +68,23 @@ fn change_in_line<D: Disk + Drop, G: Gate, R: Wait>(
     op: &UserOp,
     gate: &mut G,
     rt: &R,
-) -> UserTook
+) -> Result<UserTook, Stopped>
     requires pass { HasPass turns.now pass.old }
     requires changing { IsChanging op.now }
     requires named { NamesUid op.now }
     requires seen { HasSeen D.Disk turns.now pass.old }
     ensures pass { HasPass turns.now pass.new × (pass.new.number ≡ pass.old.number) }
     ensures rests { IsAtRest pass.old → IsAtRest pass.new }
-    ensures took { After D.Disk turns.now pass.old (Tries op.now pass.new (Some result)) }
-    ensures stopped { result ≡ UserTook.Stopped → Rose (G.stops gate.old) (G.stops gate.new) }
-    ensures unstopped { result ≢ UserTook.Stopped → G.stops gate.new ≡ G.stops gate.old }
-    ensures later { G.stops gate.old ≤ G.stops gate.new }
+    ensures took { After D.Disk turns.now pass.old (Took op.now pass.new result) }
+    ensures stopped { RoseOnlyFor (G.stops gate.old) (G.stops gate.new) (IsErr result) }
     ensures asked { G.asked gate.old gate.new (asked_at_turn result) }
 {
     let mut rest = Rest::new();
     for _ in rt.forever() {
         match try_change(pass, turns, op, gate, rt) {
-            Some(took) => return took,
-            None => rest.again(0, rt),
+            Ok(Some(took)) => return Ok(took),
+            Err(Stopped) => return Err(Stopped),
+            Ok(None) => rest.again(0, rt),
         }
     }
     unreachable!()
@@ -102,7 +97,7 @@ fn try_change<D: Disk + Drop, G: Gate, R: Wait>(
     op: &UserOp,
     gate: &mut G,
     rt: &R,
-) -> Option<UserTook>
+) -> Result<Option<UserTook>, Stopped>
     requires pass { HasPass turns.now pass.old }
     requires changing { IsChanging op.now }
     requires named { NamesUid op.now }
@@ -110,28 +105,25 @@ fn try_change<D: Disk + Drop, G: Gate, R: Wait>(
     ensures pass { HasPass turns.now pass.new × (pass.new.number ≡ pass.old.number) }
     ensures rests { IsAtRest pass.old → IsAtRest pass.new }
     ensures took { After D.Disk turns.now pass.old (Tries op.now pass.new result) }
-    ensures stopped { result ≡ Some UserTook.Stopped
-        → Rose (G.stops gate.old) (G.stops gate.new) }
-    ensures unstopped { result ≢ Some UserTook.Stopped → G.stops gate.new ≡ G.stops gate.old }
-    ensures later { G.stops gate.old ≤ G.stops gate.new }
+    ensures stopped { RoseOnlyFor (G.stops gate.old) (G.stops gate.new) (IsErr result) }
     ensures asked { G.asked gate.old gate.new (asked_in result) }
 {
     let (mut keeper, change) = match take(pass, turns, op, gate, rt) {
-        Planned::Taken(keeper, change) => (keeper, change),
-        Planned::Denied(cause) => return Some(UserTook::Denied(cause)),
-        Planned::Stopped => return Some(UserTook::Stopped),
-        Planned::Waits => return None,
+        Ok(Planned::Taken(keeper, change)) => (keeper, change),
+        Ok(Planned::Denied(cause)) => return Ok(Some(UserTook::Denied(cause))),
+        Ok(Planned::Waits) => return Ok(None),
+        Err(Stopped) => return Err(Stopped),
     };
     let state = &mut *keeper;
     match state.note(&change) {
         Ok(()) => {
             bring(pass, turns, op, UserOutcome::Done(change), keeper, rt);
-            Some(UserTook::Done)
+            Ok(Some(UserTook::Done))
         }
         Err(DiskFault) => {
             let cause = Cause::DiskFault;
             bring(pass, turns, op, UserOutcome::Failed(cause), keeper, rt);
-            Some(UserTook::Denied(cause))
+            Ok(Some(UserTook::Denied(cause)))
         }
     }
 }
@@ -143,16 +135,14 @@ fn take<D: Disk + Drop, G: Gate, R: Wait>(
     op: &UserOp,
     gate: &mut G,
     rt: &R,
-) -> Planned<D>
+) -> Result<Planned<D>, Stopped>
     requires pass { HasPass turns.now pass.old }
     requires changing { IsChanging op.now }
     requires seen { HasSeen D.Disk turns.now pass.old }
     ensures pass { HasPass turns.now pass.new × (pass.new.number ≡ pass.old.number) }
     ensures rests { IsAtRest pass.old → RestsUnlessTaken result pass.new }
     ensures took { After D.Disk turns.now pass.old (Takes D.Disk op.now pass.new result) }
-    ensures stopped { result ≡ Planned.Stopped → Rose (G.stops gate.old) (G.stops gate.new) }
-    ensures unstopped { result ≢ Planned.Stopped → G.stops gate.new ≡ G.stops gate.old }
-    ensures later { G.stops gate.old ≤ G.stops gate.new }
+    ensures stopped { RoseOnlyFor (G.stops gate.old) (G.stops gate.new) (IsErr result) }
     ensures asked { G.asked gate.old gate.new (asked_by result) }
 {
     let mut turn = turns.enter(pass, rt);
@@ -201,12 +191,11 @@ pub fn login<D: Disk + Drop, R: Wait>(
     rt: &R,
 ) -> Option<Class>
     requires pass { HasPass turns.now pass.old }
-    requires seen { (h : List Entry) × Saw (opening_at D.state turns.now.first) pass.old.seen h }
+    requires seen { HasSeen D.Disk turns.now pass.old }
     ensures pass { HasPass turns.now pass.new × (pass.new.number ≡ pass.old.number) }
     ensures rests { IsAtRest pass.old → IsAtRest pass.new }
-    ensures logged { (h : List Entry) → Saw (opening_at D.state turns.now.first) pass.old.seen h
-        → LoggedIn (opening_at D.state turns.now.first) pass.old.number h
-        (record { vacant = vacant; uid = uid; pid = pid.now }) pass.new.seen result }
+    ensures logged { After D.Disk turns.now pass.old (LogsIn (record
+        { vacant = vacant; uid = uid; pid = pid.now }) pass.new result) }
 {
     let mut turn = turns.enter(pass, rt);
     let class = turn.state().list.login_now(uid, pid);
@@ -238,11 +227,10 @@ pub fn cancel<D: Disk + Drop, R: Wait>(
     rt: &R,
 )
     requires pass { HasPass turns.now pass.old }
-    requires seen { (h : List Entry) × Saw (opening_at D.state turns.now.first) pass.old.seen h }
+    requires seen { HasSeen D.Disk turns.now pass.old }
     ensures pass { HasPass turns.now pass.new × (pass.new.number ≡ pass.old.number) }
     ensures rests { IsAtRest pass.old → IsAtRest pass.new }
-    ensures cancelled { (h : List Entry) → Saw (opening_at D.state turns.now.first) pass.old.seen h
-        → Cancels (opening_at D.state turns.now.first) pass.old.number h uid pass.new.seen }
+    ensures cancelled { After D.Disk turns.now pass.old (PutsOut uid pass.new) }
 {
     let mut turn = turns.enter(pass, rt);
     let place = pass.number();
@@ -260,11 +248,10 @@ pub fn is_cancelled<D: Disk + Drop, R: Wait>(
     rt: &R,
 ) -> bool
     requires pass { HasPass turns.now pass.old }
-    requires seen { (h : List Entry) × Saw (opening_at D.state turns.now.first) pass.old.seen h }
+    requires seen { HasSeen D.Disk turns.now pass.old }
     ensures pass { HasPass turns.now pass.new × (pass.new.number ≡ pass.old.number) }
     ensures rests { IsAtRest pass.old → IsAtRest pass.new }
-    ensures looked { (h : List Entry) → Saw (opening_at D.state turns.now.first) pass.old.seen h
-        → LookedAt (opening_at D.state turns.now.first) pass.old.number h pass.new.seen result }
+    ensures looked { After D.Disk turns.now pass.old (Looks pass.new result) }
 {
     let turn = turns.enter(pass, rt);
     let cancelled = has_ended(&turn.state().occupants, pass.number());
@@ -280,13 +267,10 @@ pub fn rows<D: Disk + Drop, R: Wait>(
     rt: &R,
 ) -> Result<UserRows, Cause>
     requires pass { HasPass turns.now pass.old }
-    requires seen { (h : List Entry) × Saw (opening_at D.state turns.now.first) pass.old.seen h }
+    requires seen { HasSeen D.Disk turns.now pass.old }
     ensures pass { HasPass turns.now pass.new × (pass.new.number ≡ pass.old.number) }
     ensures rests { IsAtRest pass.old → IsAtRest pass.new }
-    ensures rows { (h : List Entry) → Saw (opening_at D.state turns.now.first) pass.old.seen h
-        → MatchResult result (λ given. RowsAre (opening_at D.state turns.now.first) pass.old.number
-        h which pass.new.seen given.items)
-        (RowsDenied (opening_at D.state turns.now.first) pass.old.number h which pass.new.seen) }
+    ensures rows { After D.Disk turns.now pass.old (Reads which pass.new result) }
 {
     let turn = turns.enter(pass, rt);
     let given = turn.state().list.listing(&which);

@@ -1,5 +1,5 @@
 -- What a file stands for that a primary's disk read at a moment of its commands on users.
-use Rattle.std.proofs.Common.{Bool, ◌≡◌, ◌⊎◌, inl, inr, ⊎_elim, ℕ, zero, suc, ◌+◌, ◌-◌, ◌≤◌, ◌<◌, List, [], ◌∷◌, ◌++◌, length, take, Option, Some, None, IfSome, nat_eq, if◌then◌else◌, slice_get, refl, sym, ◌∙◌, ap, subst, arith, length-append, append_assoc}
+use Rattle.std.proofs.Common.{Bool, ◌≡◌, ◌⊎◌, inl, inr, ⊎_elim, ℕ, zero, suc, ◌+◌, ◌-◌, ◌≤◌, ◌<◌, List, [], ◌∷◌, ◌++◌, length, take, Some, None, IfSome, nat_eq, if◌then◌else◌, slice_get, refl, sym, ◌∙◌, ap, subst, arith, length-append, append_assoc}
 use Rattle.std.proofs.lemmas.Bool.{cases_lt}
 use Rattle.std.proofs.lemmas.List.{append-nil}
 use Rattle.std.proofs.Math.Dec.{eqb-suc-zero}
@@ -19,7 +19,7 @@ use Rattle.user_admin.specs.declared.op.UserEntry.{UserEntry}
 use Rattle.user_admin.specs.declared.state.UserState.{UserState}
 use Rattle.user_admin.specs.Files.{FoldsTo, IsFileOn}
 use Rattle.user_admin.specs.Histories.{Opening}
-use Rattle.user_admin.specs.States.{IsFileAfter, IsFileOf, StandsFor, opening_of}
+use Rattle.user_admin.specs.States.{IsFileAfter, IsFileOf, StandsFor}
 use Rattle.user_admin.specs.Users.{shelf_users}
 use Rattle.user_laws.specs.Mirrorings.{AreCommands, Command, CopiesStand, HasStarted, IsCommand, IsMirroredSince, MayBe, Says, StandbysStand, StandbysStandSince, StandsAt, StandsForFirst, StartsAreCommands, Task, change, entered_in, read_by, start}
 
@@ -76,7 +76,7 @@ module _ {D : Type 0} (told : Type 0) (state : D → DiskState) (t : told) (disk
           let both : length (read_in state c.calls ++ read_by state (take n cs)) ≤ a = ended in
           absurd (omega (arith, le, before, both, length-append (read_in state c.calls) (read_by state (take n cs))))
 
-  -- or behind it
+  -- or after it
   in_rest : (d : D) (h : List UserEntry) (c : Command D) (cs : List (Command D)) (a : ℕ) (file : List ℕ)
       → StandsForFirst state o (h ++ c.entered) cs (a - length (read_in state c.calls)) file → StandsForFirst state o h (c ∷ cs) a file
   in_rest d h c cs a file x = record {
@@ -111,7 +111,7 @@ pub standbys_stand : {D : Type 0} (told : Type 0) (state : D → DiskState) → 
 standbys_stand told state disk t o d h cs s are pair unseen keeps is = find told state t (λ x. disk x t) o d h cs s are pair.primary.answered keeps.moment pair.standby.file keeps.not_before
     (ap (λ (l : List (List ℕ)). slice_get l keeps.moment) (sym is) ∙ get_more (moments pair.primary) unseen keeps.moment pair.standby.file keeps.read)
 
--- what stands behind the older ones
+-- what stands after the older ones
 behind_older : {A : Type 0} (xs ys : List A) (k : ℕ) → slice_get (xs ++ ys) (length xs + k) ≡ slice_get ys k
 behind_older [] ys k = ap (slice_get ys) (let none : 0 + k ≡ k = omega arith in none)
 behind_older (x ∷ xs) ys k = ap (slice_get (x ∷ (xs ++ ys))) (let one : suc (length xs) + k ≡ suc (length xs + k) = omega arith in one) ∙ behind_older xs ys k

@@ -9,7 +9,7 @@ use Rattle.standby_link.specs.Calls.{AreCalls, Call, last_of, read_in}
 use Rattle.standby_link.specs.Laws.{KeepsUp, named}
 use Rattle.standby_link.specs.Mirrors.{Pair, Primary, moments}
 use Rattle.user_admin.specs.declared.op.UserEntry.{UserEntry}
-use Rattle.user_admin.specs.declared.op.UserOp.{UserOp}
+use Rattle.tl1_users.specs.declared.op.UserOp.{UserOp}
 use Rattle.user_admin.specs.declared.state.UserState.{UserState}
 use Rattle.user_admin.specs.Histories.{Opening}
 use Rattle.user_admin.specs.Openings.{Begins, IsOpening, LeavesOpened}
@@ -22,7 +22,7 @@ pub data Task : Type 0 where
   -- the change of this operation is kept
   change : UserOp → Task
 
--- A command: what the journal is called for, its calls on the disk, and the entries that the history got behind it, before the next one.
+-- A command: what the journal is called for, its calls on the disk, and the entries that the history got after it, before the next one.
 pub record Command (D : Type 0) : Type 0 where
   pub task : Task
   pub calls : List (Call D)
@@ -51,7 +51,7 @@ pub record IsCommand {D : Type 0} (told : Type 0) (state : D → DiskState) (o :
   pub calls : AreCalls state d c.calls
   pub says : Says told o h c.task (state d) (state (last_of d c.calls))
 
--- commands from this disk and this history on, each where the one before ended, behind which this state is home
+-- commands from this disk and this history on, each where the one before ended, after which this state is home
 abbrev pub AreCommands : {D : Type 0} → Type 0 → (D → DiskState) → Opening → D → List UserEntry → List (Command D) → UserState D → Type 0
 AreCommands told state o d h [] s = (s.journal.0 ≡ d) × StandsFor told state o s h
 AreCommands told state o d h (c ∷ cs) s = IsCommand told state o d h c × AreCommands told state o (last_of d c.calls) (h ++ c.entered) cs s
@@ -65,19 +65,19 @@ abbrev pub entered_in : {D : Type 0} → List (Command D) → List UserEntry
 entered_in [] = []
 entered_in (c ∷ cs) = c.entered ++ entered_in cs
 
--- a file stands for the users in front of this command, or with its change; or behind all commands, with the change in doubt or not
+-- a file stands for the users before this command, or with its change; or after all commands, with the change in doubt or not
 abbrev pub StandsAt : {D : Type 0} → Opening → List UserEntry → Option (Command D) → List ℕ → Type 0
 StandsAt o h None = IsFileAfter o h
 StandsAt o h (Some c) = MayBe o h c.task
 
--- A file stands for the users behind the first commands, and maybe with one change more. Among these commands are all that ended by this moment.
+-- A file stands for the users after the first commands, and maybe with one change more. Among these commands are all that ended by this moment.
 pub record StandsForFirst {D : Type 0} (state : D → DiskState) (o : Opening) (h : List UserEntry) (cs : List (Command D)) (by : ℕ) (file : List ℕ) : Type 0 where
   pub number : ℕ
   pub holds : (n : ℕ) → n ≤ length cs → length (read_by state (take n cs)) ≤ by → n ≤ number
   pub stands : StandsAt o (h ++ entered_in (take number cs)) (slice_get cs number) file
 
 -- Whatever a primary's commands are and whenever it stopped, of which these are the moments that it didn't see any more, its standby's file stands for
--- the users behind the first of them, and maybe with one change more; and all are among them that ended by the last sync that it answered while Joined.
+-- the users after the first of them, and maybe with one change more; and all are among them that ended by the last sync that it answered while Joined.
 abbrev pub StandbysStand : {D : Type 0} → Type 0 → (D → DiskState) → Type 0
 StandbysStand {D} told state = told → (o : Opening) (d : D) (h : List UserEntry) (cs : List (Command D)) (s : UserState D) → AreCommands told state o d h cs s
     → (pair : Pair) (unseen : List (List ℕ)) → KeepsUp pair → moments pair.primary ++ unseen ≡ (state d).reads_as ∷ read_by state cs
@@ -108,7 +108,7 @@ CopiesStand {D} told state = told → (o : Opening) (d : D) (h : List UserEntry)
 abbrev pub started_by : {D : Type 0} → Contents → List (Call D) → Command D
 started_by shelf calls = record { task = start shelf; calls = calls; entered = [] }
 
--- A start on a settled disk is the first command, behind which its state is home.
+-- A start on a settled disk is the first command, after which its state is home.
 abbrev pub StartsAreCommands : {D : Type 0} → Type 0 → (D → DiskState) → Type 0
 StartsAreCommands {D} told state = told → (d : D) (shelf : Contents) (calls : List (Call D)) (s : UserState D) → IsSettled (state d) → AreCalls state d calls → s.journal.0 ≡ last_of d calls
     → IsOpening told (state d).reads_as shelf (opening_of state s) → LeavesOpened shelf (state d) (state (last_of d calls)) → Begins told state s

@@ -5,7 +5,7 @@ ghost use Rattle.user_laws.specs.Mirrorings.{CopiesStand, StandbysStand, Standby
 
 use dxc_disk::Disk;
 
-/// From its first Sync on a standby's copy of the users' journal stands for the users behind the first of the primary's commands on them, and maybe for
+/// From its first Sync on a standby's copy of the users' journal stands for the users after the first of the primary's commands on them, and maybe for
 /// one change more, that of the operation in hand or in doubt. All commands that ended by the last sync which the primary answered while Joined are among
 /// the first, and so all users' changes that were acknowledged while Joined. This holds whenever the primary stopped, in the middle of a command too, and
 /// long after the mirror was lost. Before that Sync the name of the copy stands for no file at all (`named` of `standby_link`).

@@ -73,7 +73,7 @@ at_odds h (mode ∷ a ∷ b ∷ rest) status number shelf journal d e (Some u) i
 }
 
 module _ {D : Type 0} (told : Type 0) (state : D → DiskState) (shape : Dimensions) (disk : D) (i : ℕ) where
-  -- a call of the disk failed behind others
+  -- a call of the disk failed after others
   pub failed_since : (mid later : D) → (state disk).faults ≤ (state mid).faults → Rose (state mid).faults (state later).faults → IsUnnamed told state shape disk i
   failed_since mid later low rose = inl (later, omega (arith, low, rose))
 

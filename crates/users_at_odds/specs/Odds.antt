@@ -26,7 +26,7 @@ name_in bytes = take (slice_index bytes 3) (drop 4 bytes)
 abbrev pub most_bytes : ℕ
 most_bytes = 10
 
--- what is asked for, by the words behind the mode
+-- what is asked for, by the words after the mode
 abbrev pub odds_asked : List (List ℕ) → List Asking
 odds_asked [] = []
 odds_asked (mode ∷ []) = []

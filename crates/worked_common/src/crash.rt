@@ -1,7 +1,7 @@
 use crate::torn::{Torn, overwrite};
 use std::alloc::{AllocError, Global};
 
-/// A write that no sync came behind, and what it wrote over.
+/// A write that no sync came after, and what it wrote over.
 #[derive(Drop)]
 struct Write {
     at: usize,

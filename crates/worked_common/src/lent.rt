@@ -15,12 +15,10 @@ use crate::part::Part;
 use crate::torn::Torn;
 use crate::words::{Line, add_frame, joined};
 use anyhow::{Context, Result};
+use dxc_notes::PLACES;
 use dxc_outside::{MemGate, MemLines, MemLink, Name};
 use std::alloc::Global;
 use std::sync::Arc;
-
-/// The program serves so many sessions at a time.
-const PLACES: usize = 16;
 
 /// The words that begin what a run's opener holds.
 const HELD: [&str; 3] = ["lines", "place", "peer"];

@@ -14,7 +14,7 @@ const JOURNAL: &str = "j";
 
 const USERS: &str = "j.users";
 
-/// What a row's runs find, one behind the other.
+/// What a row's runs find, one after the other.
 #[derive(Drop)]
 pub struct Office<'a> {
     /// The element's name, as headers have it.
@@ -81,7 +81,7 @@ impl<'a> Office<'a> {
         Ok(())
     }
 
-    /// What of the files is otherwise than it must be behind the run of these lines.
+    /// What of the files is otherwise than it must be after the run of these lines.
     pub fn otherwise(&self, alloc: Global, run: Part<'_, '_>) -> Result<Option<String>> {
         let length = self.journal.len() as u64;
         let wanted = run.number_at("length")?.unwrap_or(length);

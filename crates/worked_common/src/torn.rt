@@ -6,7 +6,7 @@ const OTHER: u8 = 0x5A;
 
 const SEAL: u8 = 0xA5;
 
-/// What comes of the bytes of a write that fails, or that no sync came behind.
+/// What comes of the bytes of a write that fails, or that no sync came after.
 #[derive(Clone, Copy)]
 pub enum Torn {
     Lost,

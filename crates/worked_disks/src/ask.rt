@@ -2,18 +2,19 @@
 ghost use Rattle.std.specs.Prelude.{◌↔◌, IfOk, IsTrue, List, OnOk, ◌≡◌};
 ghost use Rattle.user_admin.specs.declared.op.UserEntry.{UserEntry as Entry};
 ghost use Rattle.user_admin.specs.Histories.{Opening};
-ghost use Rattle.user_admin.specs.Spellable.{NamesUid};
+ghost use Rattle.tl1_users.specs.Commands.{NamesUid};
 ghost use Rattle.user_admin.specs.States.{StandsFor};
 ghost use Rattle.user_admin.specs.Verdicts.{IsChanging};
 
 use anyhow::{Context, Result};
 use dxc_disk::Disk;
 use dxc_model::{Cause, Class, SessionUser, Uid};
-use dxc_outside::AlwaysGo;
+use dxc_outside::{AlwaysGo, Stopped};
 use std::alloc::Global;
 use tl1_text::Sid;
 use tl1_text::grammar::blocks;
-use user_admin::{UserDone, UserOp, UserState, user_command_of};
+use tl1_users::{UserOp, user_command_of};
+use user_admin::{UserDone, UserState};
 use worked_common::{Line, two};
 
 fn letter_of(class: Class) -> u8 {
@@ -107,11 +108,11 @@ fn change<D: Disk>(state: &mut UserState<D>, op: &UserOp) -> &'static str
     text_when(&done)
 }
 
-fn text_when(done: &UserDone) -> &'static str {
+fn text_when(done: &Result<UserDone, Stopped>) -> &'static str {
     match done {
-        UserDone::Done(_) => "COMPLD",
-        UserDone::Denied(cause) => cause.text(),
-        UserDone::Stopped => "STOPPED",
+        Ok(UserDone::Done(_)) => "COMPLD",
+        Ok(UserDone::Denied(cause)) => cause.text(),
+        Err(Stopped) => "STOPPED",
     }
 }
 

@@ -61,7 +61,7 @@ fn opened<D: Disk + Drop>(
     }
 }
 
-/// What an opening did otherwise than it must, and what is done behind it, which the lines say. None where nothing was otherwise; the
+/// What an opening did otherwise than it must, and what is done after it, which the lines say. None where nothing was otherwise; the
 /// journal is then what the disk holds.
 pub fn run_fault(
     alloc: Global,
@@ -83,7 +83,7 @@ pub fn run_fault(
     }
 }
 
-// The disk behind the steps, or what came of one otherwise than it must.
+// The disk after the steps, or what came of one otherwise than it must.
 fn ended<D: Disk + Drop>(
     alloc: Global,
     sid: &Sid,
@@ -98,14 +98,14 @@ fn ended<D: Disk + Drop>(
     }
 }
 
-// What a line behind an opening is.
+// What a line after an opening is.
 #[derive(Clone, Copy)]
 enum Kind {
     // It is no more of this opening.
     Other,
     Step,
     Want,
-    // It is about the disk behind the steps.
+    // It is about the disk after the steps.
     Disk,
 }
 
@@ -161,7 +161,7 @@ fn step_fault<D: Disk>(
     }
 }
 
-// What is wrong with the disk behind an opening. The journal is what it holds.
+// What is wrong with the disk after an opening. The journal is what it holds.
 fn fault_behind(
     alloc: Global,
     shelf: &Shelf,
@@ -254,7 +254,7 @@ fn found_in(alloc: Global, shelf: &Shelf, journal: Vec<u8>) -> Result<Vec<u8>> {
     }
 }
 
-// Why the users behind a crash in front of a call aren't those of one of the first lines.
+// Why the users after a crash before a call aren't those of one of the first lines.
 fn users_otherwise(
     alloc: Global,
     moment: usize,

@@ -93,7 +93,7 @@ fn line_otherwise<K: Link>(
     written_otherwise(alloc, "it", stood.as_bytes(), stands.as_bytes())
 }
 
-// Writes what the text tells; whether that was answered, and the text behind it.
+// Writes what the text tells; whether that was answered, and the text after it.
 fn write<'a, K: Link>(
     alloc: Global,
     mirror: &mut MirrorDisk<RowDisk, K>,

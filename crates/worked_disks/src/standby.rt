@@ -42,7 +42,7 @@ fn end_on<D: Disk + Drop, K: Link>(alloc: Global, disk: D, link: &mut K) -> Resu
     spelled(alloc, &end)
 }
 
-/// What a standby does otherwise than it must, with its input cut behind some byte or whole.
+/// What a standby does otherwise than it must, with its input cut after some byte or whole.
 pub fn standby_otherwise(alloc: Global, row: Part<'_, '_>) -> Result<Option<String>> {
     let exchange = exchange_of(alloc, "", row)?;
     for cut in 0..=exchange.input.len() {
@@ -56,7 +56,7 @@ pub fn standby_otherwise(alloc: Global, row: Part<'_, '_>) -> Result<Option<Stri
     Ok(None)
 }
 
-// The same with the input cut behind so many bytes.
+// The same with the input cut after so many bytes.
 fn cut_otherwise(
     alloc: Global,
     row: Part<'_, '_>,

@@ -27,7 +27,7 @@ fn take_line(alloc: Global, line: Line, file: &mut Vec<u8>, journal: &mut Vec<u8
     Ok(())
 }
 
-// Runs the openings of all rows. The lines behind an opening are read with it.
+// Runs the openings of all rows. The lines after an opening are read with it.
 fn run_rows(alloc: Global, shelf: &Shelf, lines: &[Line], tally: &mut Tally) -> Result<()> {
     let mut name = "";
     let (mut file, mut journal) = (Vec::new(alloc), Vec::new(alloc));

@@ -1,7 +1,7 @@
 use crate::crew::Crew;
 use crate::row::frames_said;
 use anyhow::Result;
-use dxc_outside::{Gate, GatePlace, Pass1};
+use dxc_outside::{Gate, GatePlace, Stopped};
 use std::alloc::Global;
 use worked_common::Part;
 
@@ -74,8 +74,6 @@ impl Carrier {
 }
 
 impl Gate for Carrier {
-    ghost use Rattle.std.specs.Prelude.{◌≡◌};
-
     ghost stops = { λ g. g.stops };
 
     ghost asked = { λ _ _ _. Unit {0} };
@@ -84,7 +82,7 @@ impl Gate for Carrier {
 
     ghost asked_on = { λ _ _ _ _ _ _ _. tt };
 
-    fn pass(&mut self, place: GatePlace) -> Pass1 {
+    fn pass(&mut self, place: GatePlace) -> Result<(), Stopped> {
         self.crew.carry();
         self.astray = self.astray || !self.may_come();
         match place {
@@ -95,9 +93,9 @@ impl Gate for Carrier {
         let stops = self.stop == Some(self.askings);
         self.askings = self.askings.saturating_add(1);
         if !stops {
-            return Pass1::Go;
+            return Ok(());
         }
         self.stops = self.stops.saturating_add(1);
-        Pass1::Stop
+        Err(Stopped)
     }
 }

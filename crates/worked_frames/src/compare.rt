@@ -23,7 +23,7 @@ pub fn compare_counts(
     Ok(())
 }
 
-/// Compares the frames, in the session and behind it.
+/// Compares the frames, in the session and after it.
 pub fn compare_frames(alloc: Global, gate: &mut Carrier, session: Part<'_, '_>) -> Result<()> {
     ensure!(!gate.went_astray(), "another frame was carried");
     let crew = &mut gate.crew;

@@ -15,7 +15,7 @@ pub fn disk_of(alloc: Global, row: Part<'_, '_>, levers: &Arc<Levers>) -> Result
     Ok(RowDisk::new(held, shown, torn, levers, None))
 }
 
-/// So many new disks in memory, for the users of controllers one behind the other.
+/// So many new disks in memory, for the users of controllers one after the other.
 pub fn users_disks(alloc: Global, count: usize) -> Result<Vec<MemDisk>> {
     let mut disks = Vec::new(alloc);
     for _ in 0..count {

@@ -16,7 +16,7 @@ pub enum Cue {
     Reach(usize),
     /// What follows comes when this point was come to.
     Await(usize),
-    /// What follows comes when each worker has carried a frame that began behind what was before.
+    /// What follows comes when each worker has carried a frame that began after what was before.
     Frames,
 }
 

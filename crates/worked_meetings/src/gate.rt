@@ -1,5 +1,5 @@
 use crate::meeting::Meeting;
-use dxc_outside::{Gate, GatePlace, Pass1};
+use dxc_outside::{Gate, GatePlace, Stopped};
 use std::sync::Arc;
 
 /// What a gate does at one of its askings.
@@ -59,15 +59,15 @@ impl Gate for CuedGate {
 
     ghost asked_on = { λ _ _ _ _ _ _ _. tt };
 
-    fn pass(&mut self, _place: GatePlace) -> Pass1 {
+    fn pass(&mut self, _place: GatePlace) -> Result<(), Stopped> {
         let asking = self.asked;
         self.asked = self.asked.saturating_add(1);
         if let Some(cued) = &self.cued {
             if cued.asking == asking && !cued.goes_on() {
                 self.stops = self.stops.saturating_add(1);
-                return Pass1::Stop;
+                return Err(Stopped);
             }
         }
-        Pass1::Go
+        Ok(())
     }
 }

@@ -1,5 +1,5 @@
 //! A change that is driven while a worker holds its frame.
-ghost use Rattle.std.specs.Prelude.{◌≡◌, IfOk, IfSome, []};
+ghost use Rattle.std.specs.Prelude.{◌≡◌, IfOk, IfSome, [], Ok};
 ghost use Rattle.dxc_model.specs.Operations.{IsApt};
 ghost use Rattle.fabric_core.specs.Working.{CanBegin, HasOutput, Runs};
 ghost use Rattle.roll_engine.specs.Rollings.{rest_of};
@@ -12,7 +12,7 @@ use anyhow::{Result, bail};
 use dxc_disk::Disk;
 use dxc_model::{Cause, Op};
 use dxc_num::Port;
-use dxc_outside::MemGate;
+use dxc_outside::{MemGate, Stopped};
 use fabric_words::{Fabric, WorkerSeat};
 use roll_engine::Advance;
 use std::alloc::Global;
@@ -29,13 +29,13 @@ pub struct Beside {
     /// The OUT word that the worker holds.
     pub held: Option<u64>,
     /// How the mover was held up.
-    pub first: Advance,
+    pub first: Result<Advance, Stopped>,
     /// How often the gate was asked until then.
     pub asked: u64,
     /// The MID word and the IN word that the worker found then.
     pub followed: Option<(u64, u64)>,
     /// How the mover went on when the frame had ended.
-    pub then: Advance,
+    pub then: Result<Advance, Stopped>,
     /// How often the gate was asked in all.
     pub asked_in_all: u64,
 }
@@ -91,15 +91,15 @@ fn note_beside<D: Disk + Drop, R: Wait>(
     let out = &mut *driver;
     let rolling = Snapshot::of(&out.rolling);
     match note(&mut out.p, rolling, op, bytes, &mut gate) {
-        Noted::Rolling => {
+        Ok(Noted::Rolling) => {
             let held = hold(fabric, reader, output);
             Ok(drive_beside(pass, turns, fabric, op, driver, reader, held, &mut gate, rt))
         }
-        Noted::Fault => {
+        Ok(Noted::Fault) => {
             turns::fail(pass, turns, op, Cause::DiskFault, driver, rt);
             bail!("its record wasn't appended");
         }
-        Noted::Stopped => {
+        Err(Stopped) => {
             turns::cut(pass, turns, op, driver, rt);
             bail!("the gate stopped before the journal");
         }
@@ -149,18 +149,18 @@ fn bring_or_cut<D: Disk + Drop, R: Wait>(
     fabric: &Fabric,
     op: &Op,
     driver: Box<Driver<D>>,
-    then: Advance,
+    then: Result<Advance, Stopped>,
     rt: &R,
 )
     requires pass { HasPass turns.now pass.old }
     requires fabric { (opening_of D.state turns.now.first).site.fabric ≡ fabric.now }
     requires taken { Upon D.Disk turns.now pass.old (OutFor D.Disk op.now driver.value) }
-    requires done { then ≡ Advance.Done → rest_of driver.value.rolling ≡ [] }
+    requires done { then ≡ Ok Advance.Done → rest_of driver.value.rolling ≡ [] }
     ensures { IsSeated D.told D.state pass.new turns.now fabric.now }
 {
     let _ = fabric;
     match then {
-        Advance::Done => turns::bring(pass, turns, op, driver, rt),
+        Ok(Advance::Done) => turns::bring(pass, turns, op, driver, rt),
         _ => turns::cut(pass, turns, op, driver, rt),
     }
 }

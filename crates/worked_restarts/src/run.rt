@@ -70,7 +70,7 @@ fn serve_all<D: Disk + Drop, U: Disk + Drop, R: Wait>(
     Ok(())
 }
 
-// Has another controller take over where the session says so. Nothing is held behind it where it finds the registers strange.
+// Has another controller take over where the session says so. Nothing is held after it where it finds the registers strange.
 fn hand_on<D: Disk + Drop, U: Disk + Drop, R: Wait>(
     alloc: Global,
     rt: &R,
@@ -143,7 +143,7 @@ fn serve_at<D: Disk + Drop, U: Disk + Drop, G: Gate, R: Wait>(
     Ok(end)
 }
 
-// Compares the register words behind the session, where they are said.
+// Compares the register words after the session, where they are said.
 fn compare_words<D: Disk + Drop, R: Wait>(
     alloc: Global,
     rt: &R,

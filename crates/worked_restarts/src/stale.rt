@@ -33,10 +33,10 @@ const OUTPUT: Port = Port(3);
 /// to slot 0 of module 1, and ends its frame; then the other fifteen are made.
 const WANTED: Beside = Beside {
     held: Some(257),
-    first: Advance::InFrame(1),
+    first: Ok(Advance::InFrame(1)),
     asked: 4,
     followed: Some((2, 1)),
-    then: Advance::Done,
+    then: Ok(Advance::Done),
     asked_in_all: 19,
 };
 
@@ -116,7 +116,7 @@ fn entry() -> Op
     })
 }
 
-// The entry, and the register words behind it.
+// The entry, and the register words after it.
 fn compare_beside<D: Disk + Drop, R: Wait>(
     alloc: Global,
     rt: &R,

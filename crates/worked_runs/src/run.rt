@@ -7,7 +7,7 @@ use std::sync::Wait;
 use std::thread::Threads;
 use worked_common::{Due, Office, Part, opener_of, spelled};
 
-/// Makes a row's runs, one behind the other. Some: the first thing that isn't as it must be.
+/// Makes a row's runs, one after the other. Some: the first thing that isn't as it must be.
 pub fn run_row<R: Threads + Wait + Copy + Send + Drop + 'static, F: Fn(&mut Turn<R>) -> Status>(
     program: &F,
     rt: &HostRuntime,

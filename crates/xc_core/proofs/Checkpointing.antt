@@ -16,8 +16,8 @@ use Rattle.dxc_model.specs.Tables.{Board, IsOfShape}
 use Rattle.journal_core.specs.declared.book.Book.{Book}
 use Rattle.journal_core.specs.declared.head.Head.{Head}
 use Rattle.journal_core.specs.declared.spare.Draft.{Draft}
-use Rattle.journal_core.specs.declared.spare.Spare.{Spare}
-use Rattle.journal_core.specs.declared.spare.Spare.TheVariants.{Older, Open, Drafted, Tried}
+use Rattle.journal_core.specs.declared.spare.SpareArea.{SpareArea}
+use Rattle.journal_core.specs.declared.spare.SpareArea.TheVariants.{Older, Open, Drafted, Tried}
 use Rattle.journal_core.specs.declared.version.Version.TheVariants.{Two}
 use Rattle.journal_core.specs.Areas.{other_half}
 use Rattle.journal_core.specs.Headers.{next_generation}
@@ -40,7 +40,7 @@ use Rattle.xc_core.proofs.Journalling.{doubts_on, home_on, may_called, may_stand
 next_same : (before after : Book) → after.head ≡ before.head → draft_of after.spare ≡ draft_of before.spare → next_head after ≡ next_head before
 next_same before after head draft = λ i. record { version = Two; generation = next_generation (head i).generation; equipped = (draft i).equipped }
 
-drafted_untried : (spare : Spare) → is_drafted spare ≡ true → is_tried spare ≡ false
+drafted_untried : (spare : SpareArea) → is_drafted spare ≡ true → is_tried spare ≡ false
 drafted_untried Older e = refl
 drafted_untried Open e = refl
 drafted_untried (Drafted d) e = refl
@@ -67,7 +67,7 @@ pub draft_left : (told : Type 0) (old new : DiskState) (before after : Book) (b 
     → LeavesOnly old new (IsOldOrDoubted b doubt)
 draft_left told old new before after b doubt shape home t result lines drafts = may_called told old before b doubt shape home t new drafts.any_moment
 
--- the rows of a table and its legs, behind a header of its equipment, stand for it
+-- the rows of a table and its legs, after a header of its equipment, stand for it
 pub rows_so_far : (b : Past) (t : Board) (c : Colouring) (book : Book) (lines : List (List ℕ)) → IsTable b t c → IsPlaced t c → IsOfShape t → AllByRecursion FitsConn t.conns → modules_in t.shape (draft_of book.spare).equipped ≡ t.equipped → lines ≡ checkpoint t c → IsSoFar b (next_head book) lines
 rows_so_far b t c book lines is placed of_shape fits equipment lines_are =
     let stand = checkpoints_stand t c (draft_of book.spare).equipped placed of_shape fits equipment in
@@ -151,7 +151,7 @@ row_more (r ∷ rs) zero row at = let e : row ≡ r = (let f : Some row ≡ Some
 row_more (r ∷ rs) (suc i) row at = let next : suc (i + 1) ≡ suc i + 1 = omega arith in ap (λ (xs : List (List ℕ)). r ∷ xs) (row_more rs i row at) ∙ ap (λ (n : ℕ). take n (r ∷ rs)) next
 
 -- a draft of no row
-drafted_as : (spare : Spare) → is_drafted spare ≡ true → (draft_of spare).rows ≡ 0 → spare ≡ Drafted (record { equipped = (draft_of spare).equipped; rows = 0 })
+drafted_as : (spare : SpareArea) → is_drafted spare ≡ true → (draft_of spare).rows ≡ 0 → spare ≡ Drafted (record { equipped = (draft_of spare).equipped; rows = 0 })
 drafted_as Older e none = absurd (never refl e)
 drafted_as Open e none = absurd (never refl e)
 drafted_as (Drafted d) e none = λ i. Drafted (record { equipped = d.equipped; rows = none i })
@@ -160,7 +160,7 @@ drafted_as (Tried d) e none = absurd (never refl e)
 pub draft_begun : (book : Book) → is_drafted book.spare ≡ true → (draft_of book.spare).rows ≡ 0 → book ≡ record book { spare = Drafted (record { equipped = (draft_of book.spare).equipped; rows = 0 }) }
 draft_begun book drafted none = λ i. record book { spare = drafted_as book.spare drafted none i }
 
--- behind the last row there is none
+-- after the last row there is none
 pub all_rows : (rs : List (List ℕ)) (i : ℕ) → slice_get rs i ≡ None → i ≤ length rs → (i ≡ length rs) × (take i rs ≡ rs)
 all_rows [] zero none low = (refl, refl)
 all_rows [] (suc i) none low = absurd (let z : ⊥ = omega arith in z)

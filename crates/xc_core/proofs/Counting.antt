@@ -8,7 +8,7 @@ use Rattle.dxc_model.specs.Equipment.{modules_in}
 use Rattle.dxc_model.specs.Tables.{Board}
 use Rattle.journal_core.specs.declared.book.Book.{Book}
 use Rattle.journal_core.specs.declared.head.Head.{Head}
-use Rattle.journal_core.specs.declared.spare.Spare.TheVariants.{Tried}
+use Rattle.journal_core.specs.declared.spare.SpareArea.TheVariants.{Tried}
 use Rattle.journal_core.specs.declared.version.Version.TheVariants.{Two}
 use Rattle.journal_core.specs.Headers.{Stands, next_generation}
 use Rattle.journal_core.specs.Books.{IsKept, IsWhole, doubted, draft_of, is_tried, listed, next_head, rows, turned}
@@ -46,7 +46,7 @@ module _ (old : DiskState) (before : Book) (t : Board) (c : Colouring) where
   counted_on mid new m still untried keeps = only_weaker mid new (Kept m (listed m mid.reads_as) (rows m mid.reads_as)) (IsCounted old before t c)
       (λ file is. ⊎_elim (λ k. still file k) (λ r. absurd (never untried r.0)) is) keeps
 
-  -- the rows of a draft behind this list
+  -- the rows of a draft after this list
   module _ (mid : DiskState) (m : Book) (shape : m.shape ≡ before.shape) (head : m.head ≡ before.head) (same : listed m mid.reads_as ≡ listed before old.reads_as) (equipment : modules_in t.shape (draft_of m.spare).equipped ≡ t.equipped) (drafted : rows m mid.reads_as ≡ checkpoint t c) where
     has_rows : (file : List ℕ) → Continues m.shape (next_head m) (rows m mid.reads_as) file → HasCheckpoint before t c file
     has_rows file is = record {
@@ -74,7 +74,7 @@ module _ (old : DiskState) (before : Book) (t : Board) (c : Colouring) where
     turn_counts new after (Ok v) turns book = turned_counts new after book turns.ok.1
     turn_counts new after (Err e) turns book = tt
 
--- what was counted behind a call that left list and rows as they were
+-- what was counted after a call that left list and rows as they were
 module _ (old mid : DiskState) (before m : Book) (t : Board) (c : Colouring) (shape : m.shape ≡ before.shape) (head : m.head ≡ before.head) (spare : m.spare ≡ before.spare) (same : listed m mid.reads_as ≡ listed before old.reads_as) (lines : rows m mid.reads_as ≡ rows before old.reads_as) where
   pub counted_from : (file : List ℕ) → IsCounted mid m t c file → IsCounted old before t c file
   counted_from file is = ⊎_elim

@@ -59,7 +59,7 @@ one_fault first before now h e one was rose = let more = faults_more h e in omeg
 pub limit_no_fault : (q : Cause) → IsLimit q → fault_in (Failed q) ≡ 0
 limit_no_fault q l = elim l [ inl is ↦ ap (λ (x : Cause). fault_in (Failed x)) is | inr is ↦ ap (λ (x : Cause). fault_in (Failed x)) is ]
 
--- what was asked for is unsettled still behind an entry that doesn't settle it
+-- what was asked for is unsettled still after an entry that doesn't settle it
 pub unsettled_more : (h : List Entry) (e : Entry) (op : Op) → (IsSettling e → ⊥) → IsUnsettled h op → IsUnsettled (h ++ e ∷ []) op
 unsettled_more h e op not was = lasts_more (λ x. IsDoubtful x × (x.op ≡ op)) IsSettling h e was not
 
@@ -159,7 +159,7 @@ brought own op e is = elim (eqb_tells e.place own) [ inl same ↦ ap (λ b. cond
 pub not_brought : (own : ℕ) (op : Op) (e : Entry) → e.place ≢ own → holder_after (Some (entry own op Taken)) e ≡ Some (entry own op Taken)
 not_brought own op e not = elim (eqb_tells e.place own) [ inl same ↦ absurd (not same.1) | inr other ↦ ap (λ b. cond b None (Some (entry own op Taken))) other.0 ]
 
--- turns behind a history
+-- turns after a history
 pub turns_behind : (o : Option Entry) (h g : List Entry) → KeepsTurns o (h ++ g) → KeepsTurns (holder o h) g
 turns_behind o [] g k = k
 turns_behind o (e ∷ es) g k = turns_behind (holder_after o e) es g k.1

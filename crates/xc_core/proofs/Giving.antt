@@ -9,8 +9,8 @@ use Rattle.paull_chain.specs.Works.{after_ops}
 use Rattle.roll_plan.specs.declared.op.LegOp.{LegOp}
 use Rattle.roll_plan.specs.Works.{ops_writes, switches_in}
 use Rattle.xc_recovery.proofs.Once.{change_plans_once}
-use Rattle.xc_core.specs.declared.second.Given.{Given}
-use Rattle.xc_core.specs.declared.second.Second.{Second}
+use Rattle.xc_core.specs.declared.replayed.Given.{Given}
+use Rattle.xc_core.specs.declared.replayed.Replayed.{Replayed}
 use Rattle.xc_core.specs.Beside.{IsBeside, MoreIs}
 use Rattle.xc_core.specs.Journals.{IsRecordOf}
 use Rattle.xc_core.specs.Provisioners.{MayBeHeld}
@@ -45,5 +45,5 @@ module _ (b : Past) (doubt : Option Op) (op : Op) (c : Change) (t : Board) (m : 
       )
 
 -- the same beside an operation that is in doubt
-pub beside_op : (b : Past) (second : Second) (m : Colouring) (t : Board) (doubt : Option Op) (spent : ℕ) (op : Op) → doubt ≡ Some op → IsBeside b second m t doubt spent → IsBeside b second m t (Some op) spent
-beside_op b second m t doubt spent op asked h = subst (λ (d : Option Op). IsBeside b second m t d spent) asked h
+pub beside_op : (b : Past) (replayed : Replayed) (m : Colouring) (t : Board) (doubt : Option Op) (spent : ℕ) (op : Op) → doubt ≡ Some op → IsBeside b replayed m t doubt spent → IsBeside b replayed m t (Some op) spent
+beside_op b replayed m t doubt spent op asked h = subst (λ (d : Option Op). IsBeside b replayed m t d spent) asked h

@@ -1,4 +1,4 @@
--- The Provisioner behind a stop, and its recovery on the way.
+-- The Provisioner after a stop, and its recovery on the way.
 use Rattle.std.proofs.Common.{append-nil, ◌≡◌, inl, inr, ℕ, ◌+◌, ◌<◌, ◌≤◌, ◌^◌, true, false, List, [], ◌∷◌, ◌++◌, length, Option, Some, None, sym, refl, ap, ◌∙◌, subst, arith}
 use Rattle.std.specs.List.{AllByRecursion}
 use Rattle.dxc_num.specs.Dimensions.{Dimensions}
@@ -56,7 +56,7 @@ use Rattle.xc_core.proofs.Rolling.{within}
 abbrev no_work : Work
 no_work = record { ops = record { items = [] } }
 
--- what stands behind where a change is taken up
+-- what there is after a change was taken up
 module _ (b : Past) (doubt : Option Op) where
   pub taken_few : (lacking : Option Change) (g : Past) → b.fold.switches ≤ 2 ^ 48 → TakesUp b doubt lacking g → g.fold.switches ≤ 2 ^ 48
   taken_few None g few is = subst (λ (x : Past). x.fold.switches ≤ 2 ^ 48) (sym is) few
@@ -67,7 +67,7 @@ module _ (b : Past) (doubt : Option Op) where
   op_same : {x y : Op} → Some x ≡ Some y → x ≡ y
   op_same e = cc
 
-  -- the list with the change's record comes to what stands behind it, by its work at last
+  -- the list with the change's record comes to what there is after it, by its work at last
   pub taken_more : (c : Change) (g : Past) → TakesUp b doubt (Some c) g → (head : Head) (records : List (List ℕ)) → IsListOf b doubt (Some c) head records → ComesTo b.fold.table.shape head records g.fold.table g.fold.colours g.fold.work
   taken_more c g (op, asked, granted, met, is) head records (x, ask, held) =
       let t = b.fold.table in
@@ -232,19 +232,19 @@ module _ {D : Type 0} (told : Type 0) (state : D → DiskState) (b : Past) where
     may_take (Some c) x (op, asked, granted, met, is) = own_verdict b.fold.table op c granted
 
     -- so the change that is lacking may be taken up
-    pub may_take_up : (t : Board) → b.fold.table ≡ t → IfSome p.second.lacking (MayTake t)
+    pub may_take_up : (t : Board) → b.fold.table ≡ t → IfSome p.replayed.lacking (MayTake t)
     may_take_up t same = subst (λ (x : Option Change × Board). IfSome x.0 (MayTake x.1)) (λ i. (sym h.lacks i, same i)) (may_take lacking g h.taken)
 
-    pub may_count : IfSome p.second.lacking (λ _. p.changes < 2 ^ 48)
+    pub may_count : IfSome p.replayed.lacking (λ _. p.changes < 2 ^ 48)
     may_count = subst (λ (x : Option Change × ℕ). IfSome x.0 (λ _. x.1 < 2 ^ 48)) (λ i. (sym h.lacks i, sym h.past.changes i)) (few_changes b p.doubt lacking g h.taken)
 
-    -- the Provisioner when all writes are made: the second matrix is the matrix
+    -- the Provisioner when all writes are made: the replayed matrix is the matrix
     abbrev pub ended : Colouring → Colouring → ℕ → ℕ → Provisioner D
-    ended m second n spent = record p { matrix = m; doubt = None; changes = n; halted = false; spent = spent; second = record p.second { matrix = second } }
+    ended m replayed n spent = record p { matrix = m; doubt = None; changes = n; halted = false; spent = spent; replayed = record p.replayed { matrix = replayed } }
 
     -- so many switches were made, and the registers are at rest on the legs
     module _ (k : ℕ) (few : k ≤ 2 ^ 48) (switches : length p.mover.mover.log ≡ k) (rest : IsAtRestOn p.mover.fabric.size g.fold.colours p.mover.mover) where
-      home_ended : (n : ℕ) → n ≡ g.changes → IsHome told state (with_switches k g) (ended p.second.matrix p.matrix n (length p.mover.mover.log))
+      home_ended : (n : ℕ) → n ≡ g.changes → IsHome told state (with_switches k g) (ended p.replayed.matrix p.matrix n (length p.mover.mover.log))
       home_ended n same =
           let placed = taken_placed b p.doubt h.past.placed lacking g h.taken in
           record {
@@ -267,9 +267,9 @@ module _ {D : Type 0} (told : Type 0) (state : D → DiskState) (b : Past) where
           }
 
       -- the end of the recovery, by the calls that make it
-      pub ends_at : (before table : Board) (m second : Colouring) (n spent : ℕ) → b.fold.table ≡ before → table ≡ with_change before p.second.lacking → m ≡ p.second.matrix → second ≡ p.matrix → n ≡ number_with p.changes p.second.lacking → spent ≡ length p.mover.mover.log
-          → Ends told state b lacking (with_switches k g) table (ended m second n spent) p.second.lacking
-      ends_at before table m second n spent same made is other number spent_is =
+      pub ends_at : (before table : Board) (m replayed : Colouring) (n spent : ℕ) → b.fold.table ≡ before → table ≡ with_change before p.replayed.lacking → m ≡ p.replayed.matrix → replayed ≡ p.matrix → n ≡ number_with p.changes p.replayed.lacking → spent ≡ length p.mover.mover.log
+          → Ends told state b lacking (with_switches k g) table (ended m replayed n spent) p.replayed.lacking
+      ends_at before table m replayed n spent same made is other number spent_is =
           let number_is : n ≡ g.changes = number ∙ ((λ i. number_with (h.past.changes i) (h.lacks i)) ∙ taken_changes b p.doubt lacking g h.taken) in
           record {
             change = h.lacks;
@@ -279,7 +279,7 @@ module _ {D : Type 0} (told : Type 0) (state : D → DiskState) (b : Past) where
             doubt = refl;
           }
 
-  -- behind a work alone nothing comes
+  -- after a work alone nothing comes
   pub alone_left : (c : Colouring) (m : Mover) (r : RollingAt) → r.behind ≡ Nothing → left_of c m r ≡ rest_of r
   alone_left c m r alone = ap (λ (x : Behind). rest_of r ++ left_behind c (legs_then m r) x) alone ∙ append-nil (rest_of r)
 
@@ -294,4 +294,4 @@ module _ {D : Type 0} (told : Type 0) (state : D → DiskState) (b : Past) where
   -- all that a cold rolling had left was made
   pub rejoined_rest : (lacking : Option Change) (g : Past) (p : Provisioner D) (r : RollingAt) → Rejoins told state b lacking g p r → writes_left p r ≡ [] → IsAtRestOn p.mover.fabric.size g.fold.colours p.mover.mover
   rejoined_rest lacking g p r h none = subst (λ (x : Colouring). IsAtRestOn p.mover.fabric.size x p.mover.mover) h.found.matrix
-      (led_to_rest p.mover.fabric.size p.second.matrix p.mover.mover (subst (λ (ws : List RegWrite). IsLeading p.mover.fabric.size p.second.matrix ws p.mover.mover) none h.leading))
+      (led_to_rest p.mover.fabric.size p.replayed.matrix p.mover.mover (subst (λ (ws : List RegWrite). IsLeading p.mover.fabric.size p.replayed.matrix ws p.mover.mover) none h.leading))

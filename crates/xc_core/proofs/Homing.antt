@@ -129,7 +129,7 @@ module _ {D : Type 0} (told : Type 0) (state : D → DiskState) where
 
   -- for a restart
   pub held_taken : (o : Opening) (s : State D) (h : List Entry) (st : StandsFor told state o s h) (d : Boxed D) → s.home ≡ In d → (own : ℕ) (asked : Op) → IsDueFor asked h → (f : Boxed D) → f.value.p.journal ≡ d.value.p.journal → ground_of f.value.p ≡ ground_of d.value.p → f.value.p.doubt ≡ d.value.p.doubt → f.value.p.halted ≡ d.value.p.halted
-      → IsReadyOrHalted told state st.now h f.value.p → f.value.p.second.expected ≡ s.table
+      → IsReadyOrHalted told state st.now h f.value.p → f.value.p.replayed.expected ≡ s.table
       → StandsFor told state o (with_home (Out errand.Restart) s) (h ++ entry own Restart Taken ∷ []) × HasHeld told state o own asked (h ++ entry own Restart Taken ∷ []) f.value.p
   held_taken o s h st d is own asked due f journal ground doubt halted stage copied =
       let was = found_in told state o s h st d is in

@@ -30,4 +30,5 @@ pub mod Opened
 pub mod Unread
 pub mod Adoption
 pub mod Asked
+pub mod Stopping
 pub mod Moves

@@ -128,7 +128,7 @@ bad_record d h a b book i t c left same disk whole mended still old new bad =
       },
     )
 
--- the moments of an opening, and of looks behind it
+-- the moments of an opening, and of looks after it
 pub leaves_opened : (shelf : Contents) (a b c : DiskState) (result : Result Book JournalWhy) → IsDisk b → ((IsNew a.reads_as → ⊥) → OpensOld shelf.shape a b result) → (IsNew a.reads_as → OpensNew shelf.shape (made_head shelf.equipped) a b result)
     → Looks b c → LeavesOpened shelf a c
 leaves_opened shelf a b c result disk old new looks = record {
@@ -257,7 +257,7 @@ module _ {D : Type 0} (told : Type 0) (state : D → DiskState) (shelf : Content
     -- a Provisioner that has read it, with this seat, halted or not
     module _ (due : Bool) (v : MoverAt) where
       abbrev pub at_home : Provisioner D
-      at_home = record { matrix = c; journal = j; mover = v; doubt = None; changes = 0; halted = due; spent = n; second = x.p.second }
+      at_home = record { matrix = c; journal = j; mover = v; doubt = None; changes = 0; halted = due; spent = n; replayed = x.p.replayed }
 
       abbrev pub opening : Opening
       opening = record { site = ground_of at_home; records = recorded j.1 (state j.0).reads_as; first = first; due = due; faults = (state j.0).faults; margin = (state j.0).margin; room = (state j.0).room }
@@ -287,7 +287,7 @@ module _ {D : Type 0} (told : Type 0) (state : D → DiskState) (shelf : Content
         spelled = (seated book.shape book.head r.records t c ops r.comes).fits;
         book = subst IsWhole (sym r.same) r.whole_book;
         shape = (seated book.shape book.head r.records t c ops r.comes).shape ∙ sym (ap (λ (y : Book). y.shape) r.same);
-        room = subst (λ (d : Dimensions). HasRoom d x.p.second) (sym (ap (λ (y : Book). y.shape) r.same ∙ r.shape)) r.room;
+        room = subst (λ (d : Dimensions). HasRoom d x.p.replayed) (sym (ap (λ (y : Book). y.shape) r.same ∙ r.shape)) r.room;
       }
 
       -- the state that it is home in, which keeps it as its origin

@@ -38,7 +38,7 @@ module _ {D : Type 0} (b : Past) (p : Provisioner D) (k : KeepsPast b p) where
     spelled = k.spelled;
     book = book;
     shape = k.shape ∙ sym same;
-    room = subst (λ (d : Dimensions). HasRoom d p.second) (sym same) k.room;
+    room = subst (λ (d : Dimensions). HasRoom d p.replayed) (sym same) k.room;
   }
 
 -- at home with another journal and operation in doubt

@@ -32,7 +32,7 @@ use Rattle.xc_recovery.proofs.Folding.{folds_begin, folds_once, none_seated}
 use Rattle.xc_recovery.proofs.LastWorks.{comes_shape}
 use Rattle.xc_recovery.specs.Replays.{ComesTo, Reaches, Replays}
 use Rattle.xc_core.specs.declared.provisioner.Provisioner.{Provisioner}
-use Rattle.xc_core.specs.declared.second.Second.{Second}
+use Rattle.xc_core.specs.declared.replayed.Replayed.{Replayed}
 use Rattle.xc_core.specs.Journals.{IsJournalled, IsOldOrDoubted, IsOneMore, IsSoFar, StandsAs}
 use Rattle.xc_core.specs.Reckonings.{Past, changed}
 use Rattle.xc_core.specs.Provisioners.{HasRoom, KeepsPast}
@@ -42,8 +42,8 @@ use Rattle.xc_core.proofs.Halting.{taken_placed, taken_so_far}
 use Rattle.xc_core.proofs.Journalling.{doubts_on, home_on, journalled_home, looked_on, may_doubt, more_by, tried_on, untried}
 use Rattle.xc_core.proofs.Staging.{way_begins, way_limits}
 
-abbrev pub with_read : {D : Type 0} → Provisioner D → D × Book → Second → Provisioner D
-with_read p j second = record p { journal = j; second = second }
+abbrev pub with_read : {D : Type 0} → Provisioner D → D × Book → Replayed → Provisioner D
+with_read p j replayed = record p { journal = j; replayed = replayed }
 
 -- what a file stands for, another one that stands alike does
 alike : (shape : Dimensions) (P : Head → List (List ℕ) → Type 0) (old new : List ℕ) → StandsAlike shape old new → StandsAs shape P old → StandsAs shape P new
@@ -117,17 +117,17 @@ module _ {D : Type 0} (told : Type 0) (state : D → DiskState) (b : Past) (p : 
       (λ c either. ⊎_elim (λ image. halted_images t c image) (λ same. alike_doubted c same (halted_images t s.reads_as disk.reads_now)) either)
       only
 
-  -- with another journal and second matrix and table
-  module _ (j : D × Book) (second : Second) (whole_book : IsWhole j.1) (shape : j.1.shape ≡ book.shape) (room : HasRoom book.shape second) where
-    past_read : KeepsPast b (with_read p j second)
+  -- with another journal and replayed matrix and table
+  module _ (j : D × Book) (replayed : Replayed) (whole_book : IsWhole j.1) (shape : j.1.shape ≡ book.shape) (room : HasRoom book.shape replayed) where
+    past_read : KeepsPast b (with_read p j replayed)
     past_read =
         let k = h.past in
-        record { matrix = k.matrix; placed = k.placed; spent = k.spent; few = k.few; changes = k.changes; doubts = k.doubts; spelled = k.spelled; book = whole_book; shape = k.shape ∙ sym shape; room = subst (λ (d : Dimensions). HasRoom d second) (sym shape) room }
+        record { matrix = k.matrix; placed = k.placed; spent = k.spent; few = k.few; changes = k.changes; doubts = k.doubts; spelled = k.spelled; book = whole_book; shape = k.shape ∙ sym shape; room = subst (λ (d : Dimensions). HasRoom d replayed) (sym shape) room }
 
-    abbrev way_read : HasWay b p → HasWay b (with_read p j second)
+    abbrev way_read : HasWay b p → HasWay b (with_read p j replayed)
     way_read w = record { lacking = w.lacking; past = w.past; before = w.before; rolling = w.rolling; taken = w.taken; on_way = record { under_way = w.on_way.under_way; leads = w.on_way.leads; switches = w.on_way.switches; alone = w.on_way.alone } }
 
-    halted_with : (told → IsKnown told state b (with_read p j second)) → IsHalted told state b (with_read p j second)
+    halted_with : (told → IsKnown told state b (with_read p j replayed)) → IsHalted told state b (with_read p j replayed)
     halted_with known = record { halted = h.halted; past = past_read; way = way_read h.way; known = known }
 
     -- the reading failed: the list is as it was
@@ -136,7 +136,7 @@ module _ {D : Type 0} (told : Type 0) (state : D → DiskState) (b : Past) (p : 
       head_same : j.1.head ≡ book.head
       head_same = ap (λ (x : Book). x.head) same_book
 
-      lists_failed : (l : Option Change) → Lists told state b p l → Lists told state b (with_read p j second) l
+      lists_failed : (l : Option Change) → Lists told state b p l → Lists told state b (with_read p j replayed) l
       lists_failed None home = home_on told s (state j.0) book j.1 b p.doubt home kept head_same same p.doubt
           (doubts_on told s (state j.0) book j.1 b p.doubt home kept head_same same (λ marked. ap (λ (x : Book). x.to_mend) (sym same_book) ∙ marked) reads)
           (tried_on told s (state j.0) book j.1 b p.doubt home kept head_same same (λ tried. ap (λ (x : Book). is_tried x.spare) (sym same_book) ∙ tried) (ap next_head same_book) lines)
@@ -157,7 +157,7 @@ module _ {D : Type 0} (told : Type 0) (state : D → DiskState) (b : Past) (p : 
       ]
       own_failed t (Some x) before g r own = own
 
-      pub halted_failed : IsHalted told state b (with_read p j second)
+      pub halted_failed : IsHalted told state b (with_read p j replayed)
       halted_failed = halted_with (λ t. let k = h.known t in record { way = way_read k.way; own = own_failed t k.way.lacking k.way.before k.way.past k.way.rolling k.own; journal = lists_failed k.way.lacking k.journal })
 
     -- it succeeded: the list is what the file stood for
@@ -174,7 +174,7 @@ module _ {D : Type 0} (told : Type 0) (state : D → DiskState) (b : Past) (p : 
       journalled_as l is = record { keeps = record { kept = kept; lists = λ _. is }; whole = whole; still = still; settled = settled }
 
       -- nothing was in doubt, or it isn't held
-      as_was : (g : Past) (before : Colouring) (r : RollingAt) → g ≡ b → IsOnWay p before g r → IsOwnWay (state j.0) j.1 b None before g r → IsSoFar b j.1.head list → IsListed told state b (with_read p j second)
+      as_was : (g : Past) (before : Colouring) (r : RollingAt) → g ≡ b → IsOnWay p before g r → IsOwnWay (state j.0) j.1 b None before g r → IsSoFar b j.1.head list → IsListed told state b (with_read p j replayed)
       as_was g before r taken way own is =
           let all = journalled_as None is in
           record {
@@ -187,7 +187,7 @@ module _ {D : Type 0} (told : Type 0) (state : D → DiskState) (b : Past) (p : 
           }
 
       -- the record in doubt is held: its work begins
-      as_held : (g : Past) (before : Colouring) (r : RollingAt) → g ≡ b → IsOnWay p before g r → rest_of r ≡ [] → (x : Op) → p.doubt ≡ Some x → IsOneMore b x j.1.head list → IsListed told state b (with_read p j second)
+      as_held : (g : Past) (before : Colouring) (r : RollingAt) → g ≡ b → IsOnWay p before g r → rest_of r ≡ [] → (x : Op) → p.doubt ≡ Some x → IsOneMore b x j.1.head list → IsListed told state b (with_read p j replayed)
       as_held g before r taken way own x asked more =
           let d = more.is in
           let ops : List LegOp = d.within.ops in
@@ -214,14 +214,14 @@ module _ {D : Type 0} (told : Type 0) (state : D → DiskState) (b : Past) (p : 
       stands_whole P t was_whole was_still has = record { head = book.head; records = listed book s.reads_as; stands = subst (λ (d : Dimensions). Stands d book.head (listed book s.reads_as) s.reads_as) shape_is (may_whole was_whole was_still s.reads_as (found t)); has = has }
 
       -- the last work is under way still
-      as_begun : told → (g : Past) (before : Colouring) (r : RollingAt) → g ≡ b → IsOnWay p before g r → LastIs s book b r.work.ops.items → IsListed told state b (with_read p j second)
+      as_begun : told → (g : Past) (before : Colouring) (r : RollingAt) → g ≡ b → IsOnWay p before g r → LastIs s book b r.work.ops.items → IsListed told state b (with_read p j replayed)
       as_begun t g before r taken way last =
           let ops : List LegOp = r.work.ops.items in
           let Comes : Head → List (List ℕ) → Type 0 = λ head records. ComesTo b.fold.table.shape head records b.fold.table b.fold.colours ops in
           let comes : ComesTo b.fold.table.shape j.1.head list b.fold.table b.fold.colours ops = list_has Comes t (stands_whole Comes t last.whole last.still last.comes) in
           as_was g before r taken way (inr (record { whole = whole; still = still; comes = comes })) (ops, comes)
 
-      relisted : told → (l : Option Change) (g : Past) (before : Colouring) (r : RollingAt) → TakesUp b p.doubt l g → IsOnWay p before g r → IsOwnWay s book b l before g r → Lists told state b p l → IsListed told state b (with_read p j second)
+      relisted : told → (l : Option Change) (g : Past) (before : Colouring) (r : RollingAt) → TakesUp b p.doubt l g → IsOnWay p before g r → IsOwnWay s book b l before g r → Lists told state b p l → IsListed told state b (with_read p j replayed)
       relisted t None g before r taken way own home = elim own [
         | inl done ↦ ⊎_elim
             (λ old. as_was g before r taken way (inl done) (list_has (IsSoFar b) t old))
@@ -237,10 +237,10 @@ module _ {D : Type 0} (told : Type 0) (state : D → DiskState) (b : Past) (p : 
             journalled = all;
           }
 
-      pub listed_anew : told → IsListed told state b (with_read p j second)
+      pub listed_anew : told → IsListed told state b (with_read p j replayed)
       listed_anew t = let k = h.known t in relisted t k.way.lacking k.way.past k.way.before k.way.rolling k.way.taken k.way.on_way k.own k.journal
 
-      pub halted_anew : IsHalted told state b (with_read p j second)
+      pub halted_anew : IsHalted told state b (with_read p j replayed)
       halted_anew = halted_with (λ t. (listed_anew t).known)
 
 -- what a replay comes to is of the journal's shape
@@ -262,25 +262,25 @@ none_bad d e records u t a c ops i comes low reached bad =
     let next = parts.2 in
     bad next.0 next.1 (subst (λ (f : Folded). Makes (version_number v) f.table f.colours (as_read v (get_or records i [])) next.0 next.1) same next.2)
 
--- What a replay behind a reading that succeeded comes to.
-module _ {D : Type 0} (told : Type 0) (state : D → DiskState) (b : Past) (p : Provisioner D) (h : IsHalted told state b p) (j : D × Book) (second : Second) (whole_book : IsWhole j.1) (shape : j.1.shape ≡ p.journal.1.shape) (room : HasRoom p.journal.1.shape second)
+-- What a replay after a reading that succeeded comes to.
+module _ {D : Type 0} (told : Type 0) (state : D → DiskState) (b : Past) (p : Provisioner D) (h : IsHalted told state b p) (j : D × Book) (replayed : Replayed) (whole_book : IsWhole j.1) (shape : j.1.shape ≡ p.journal.1.shape) (room : HasRoom p.journal.1.shape replayed)
     (whole : j.1.to_mend ≡ false) (still : j.1.turning ≡ false) (kept : told → IsKept (state j.0) j.1) (settled : told → IsSettled (state j.0)) (stands : told → Stands p.journal.1.shape j.1.head (listed j.1 (state j.0).reads_as) (state p.journal.0).reads_as)
     (found : told → MayStand p.journal.1 (listed p.journal.1 (state p.journal.0).reads_as) (doubted p.journal.1 (state p.journal.0).reads_as) (rows p.journal.1 (state p.journal.0).reads_as) (state p.journal.0).reads_as) where
   abbrev q : Provisioner D
-  q = with_read p j second
+  q = with_read p j replayed
 
-  read_by : (result : Result Work ReplayFault) (i : ℕ) → (records : List (List ℕ)) × (length records ≡ j.1.count) × Replays j.1.shape j.1.head records (Err (BadRecord i)) second.table second.matrix → IsAstray told state b q i
+  read_by : (result : Result Work ReplayFault) (i : ℕ) → (records : List (List ℕ)) × (length records ≡ j.1.count) × Replays j.1.shape j.1.head records (Err (BadRecord i)) replayed.table replayed.matrix → IsAstray told state b q i
   read_by result i is = record { records = is.0; number = is.1; astray = inl is.2 }
 
   pub read_is : (result : Result Work ReplayFault)
-      → (records : List (List ℕ)) × (length records ≡ j.1.count) × Replays j.1.shape j.1.head records result second.table second.matrix
-      → IfOk result (λ w. (records : List (List ℕ)) × (length records ≡ j.1.count) × (told → records ≡ listed j.1 (state j.0).reads_as) × ComesTo j.1.shape j.1.head records second.table second.matrix w.ops.items)
+      → (records : List (List ℕ)) × (length records ≡ j.1.count) × Replays j.1.shape j.1.head records result replayed.table replayed.matrix
+      → IfOk result (λ w. (records : List (List ℕ)) × (length records ≡ j.1.count) × (told → records ≡ listed j.1 (state j.0).reads_as) × ComesTo j.1.shape j.1.head records replayed.table replayed.matrix w.ops.items)
       → ReadIs told state b q result
   read_is (Ok w) as_read read = record {
-    halted = halted_anew told state b p h j second whole_book shape room whole still kept settled stands found;
+    halted = halted_anew told state b p h j replayed whole_book shape room whole still kept settled stands found;
     whole = whole;
     still = still;
-    listed_is = listed_anew told state b p h j second whole_book shape room whole still kept settled stands found;
+    listed_is = listed_anew told state b p h j replayed whole_book shape room whole still kept settled stands found;
     records = read.0;
     number = read.1;
     records_are = read.2;
@@ -289,17 +289,17 @@ module _ {D : Type 0} (told : Type 0) (state : D → DiskState) (b : Past) (p : 
   read_is (Err (BadRecord i)) as_read read = read_by (Err (BadRecord i)) i as_read
   read_is (Err Disk) as_read read = tt
 
-  pub never_bad : told → (result : Result Work ReplayFault) (i : ℕ) → Replays j.1.shape j.1.head (listed j.1 (state j.0).reads_as) result second.table second.matrix → result ≢ Err (BadRecord i)
+  pub never_bad : told → (result : Result Work ReplayFault) (i : ℕ) → Replays j.1.shape j.1.head (listed j.1 (state j.0).reads_as) result replayed.table replayed.matrix → result ≢ Err (BadRecord i)
   never_bad t result i is e =
-      let l = listed_anew told state b p h j second whole_book shape room whole still kept settled stands found t in
+      let l = listed_anew told state b p h j replayed whole_book shape room whole still kept settled stands found t in
       let w = l.known.way in
       let records = listed j.1 (state j.0).reads_as in
-      let bad : Replays j.1.shape j.1.head records (Err (BadRecord i)) second.table second.matrix = subst (λ (x : Result Work ReplayFault). Replays j.1.shape j.1.head records x second.table second.matrix) e is in
+      let bad : Replays j.1.shape j.1.head records (Err (BadRecord i)) replayed.table replayed.matrix = subst (λ (x : Result Work ReplayFault). Replays j.1.shape j.1.head records x replayed.table replayed.matrix) e is in
       let came = taken_so_far b p.doubt w.lacking w.past w.taken j.1.head records (l.journalled.keeps.lists t) in
       let same : w.past.fold.table.shape ≡ j.1.shape = (taken_placed b p.doubt h.past.placed w.lacking w.past w.taken).0 ∙ (h.past.shape ∙ sym shape) in
-      none_bad j.1.shape j.1.head records w.past.fold.table second.table w.past.fold.colours second.matrix came.0 i (subst (λ (d : Dimensions). ComesTo d j.1.head records w.past.fold.table w.past.fold.colours came.0) same came.1) bad.0 bad.1 bad.2
+      none_bad j.1.shape j.1.head records w.past.fold.table replayed.table w.past.fold.colours replayed.matrix came.0 i (subst (λ (d : Dimensions). ComesTo d j.1.head records w.past.fold.table w.past.fold.colours came.0) same came.1) bad.0 bad.1 bad.2
 
--- what a replay read, of the journal behind it
+-- what a replay read, of the journal after it
 pub lift_read : (told : Type 0) (k l : Book) (file now : List ℕ) (t : Board) (c : Colouring) (result : Result Work ReplayFault) → l ≡ k → (told → now ≡ file)
     → IfOk result (λ w. (records : List (List ℕ)) × (length records ≡ k.count) × (told → records ≡ listed k file) × ComesTo k.shape k.head records t c w.ops.items)
     → IfOk result (λ w. (records : List (List ℕ)) × (length records ≡ l.count) × (told → records ≡ listed l now) × ComesTo l.shape l.head records t c w.ops.items)
@@ -315,11 +315,11 @@ pub lift_replay : (k l : Book) (t : Board) (c : Colouring) (result : Result Work
     → (records : List (List ℕ)) × (length records ≡ k.count) × Replays k.shape k.head records result t c → (records : List (List ℕ)) × (length records ≡ l.count) × Replays l.shape l.head records result t c
 lift_replay k l t c result same is = subst (λ (x : Book). (records : List (List ℕ)) × (length records ≡ x.count) × Replays x.shape x.head records result t c) (sym same) is
 
--- the second matrix and table keep room for the journal
-pub read_room : (d : Dimensions) (e : Head) (records : List (List ℕ)) (result : Result Work ReplayFault) (t : Board) (c : Colouring) (s : Second) (f : Dimensions) → d ≡ f → HasRoom f s → Replays d e records result t c → HasRoom f (record s { matrix = c; table = t })
+-- the replayed matrix and table keep room for the journal
+pub read_room : (d : Dimensions) (e : Head) (records : List (List ℕ)) (result : Result Work ReplayFault) (t : Board) (c : Colouring) (s : Replayed) (f : Dimensions) → d ≡ f → HasRoom f s → Replays d e records result t c → HasRoom f (record s { matrix = c; table = t })
 read_room d e records result t c s f same room is = let r = replays_shape d e records result t c is in record { matrix = r.1 ∙ same; table = r.0 ∙ same; expected = room.expected }
 
--- the journal behind a reading that succeeded: mid is the one between
+-- the journal after a reading that succeeded: mid is the one between
 pub record IsReadAnew {D : Type 0} (told : Type 0) (state : D → DiskState) (old mid new : D × Book) : Type 0 where
   pub shape : mid.1.shape ≡ old.1.shape
   pub to_mend : mid.1.to_mend ≡ false
@@ -331,7 +331,7 @@ pub record IsReadAnew {D : Type 0} (told : Type 0) (state : D → DiskState) (ol
   pub stands : told → Stands old.1.shape new.1.head (listed new.1 (state new.0).reads_as) (state old.0).reads_as
   pub found : told → MayStand old.1 (listed old.1 (state old.0).reads_as) (doubted old.1 (state old.0).reads_as) (rows old.1 (state old.0).reads_as) (state old.0).reads_as
 
-module _ {D : Type 0} (told : Type 0) (state : D → DiskState) (b : Past) (p : Provisioner D) (h : IsHalted told state b p) (mid j : D × Book) (second : Second) (r : IsReadAnew told state p.journal mid j) (room : HasRoom p.journal.1.shape second) where
+module _ {D : Type 0} (told : Type 0) (state : D → DiskState) (b : Past) (p : Provisioner D) (h : IsHalted told state b p) (mid j : D × Book) (replayed : Replayed) (r : IsReadAnew told state p.journal mid j) (room : HasRoom p.journal.1.shape replayed) where
   read_shape : j.1.shape ≡ p.journal.1.shape
   read_shape = ap (λ (x : Book). x.shape) r.same_book ∙ r.shape
 
@@ -344,17 +344,17 @@ module _ {D : Type 0} (told : Type 0) (state : D → DiskState) (b : Past) (p : 
   read_book : IsWhole j.1
   read_book = subst IsWhole (sym r.same_book) r.book
 
-  pub anew_halted : IsHalted told state b (with_read p j second)
-  anew_halted = halted_anew told state b p h j second read_book read_shape room read_whole read_still r.kept r.settled r.stands r.found
+  pub anew_halted : IsHalted told state b (with_read p j replayed)
+  anew_halted = halted_anew told state b p h j replayed read_book read_shape room read_whole read_still r.kept r.settled r.stands r.found
 
-  pub anew_reads : (result : Result Work ReplayFault) → (records : List (List ℕ)) × (length records ≡ j.1.count) × Replays j.1.shape j.1.head records result second.table second.matrix
-      → IfOk result (λ w. (records : List (List ℕ)) × (length records ≡ j.1.count) × (told → records ≡ listed j.1 (state j.0).reads_as) × ComesTo j.1.shape j.1.head records second.table second.matrix w.ops.items)
-      → ReadIs told state b (with_read p j second) result
-  anew_reads = read_is told state b p h j second read_book read_shape room read_whole read_still r.kept r.settled r.stands r.found
+  pub anew_reads : (result : Result Work ReplayFault) → (records : List (List ℕ)) × (length records ≡ j.1.count) × Replays j.1.shape j.1.head records result replayed.table replayed.matrix
+      → IfOk result (λ w. (records : List (List ℕ)) × (length records ≡ j.1.count) × (told → records ≡ listed j.1 (state j.0).reads_as) × ComesTo j.1.shape j.1.head records replayed.table replayed.matrix w.ops.items)
+      → ReadIs told state b (with_read p j replayed) result
+  anew_reads = read_is told state b p h j replayed read_book read_shape room read_whole read_still r.kept r.settled r.stands r.found
 
-  pub anew_good : told → (result : Result Work ReplayFault) (i : ℕ) → Replays j.1.shape j.1.head (listed j.1 (state j.0).reads_as) result second.table second.matrix → result ≢ Err (BadRecord i)
-  anew_good = never_bad told state b p h j second read_book read_shape room read_whole read_still r.kept r.settled r.stands r.found
+  pub anew_good : told → (result : Result Work ReplayFault) (i : ℕ) → Replays j.1.shape j.1.head (listed j.1 (state j.0).reads_as) result replayed.table replayed.matrix → result ≢ Err (BadRecord i)
+  anew_good = never_bad told state b p h j replayed read_book read_shape room read_whole read_still r.kept r.settled r.stands r.found
 
--- what a reading keeps, it keeps behind a look
+-- what a reading keeps, it keeps after a look
 pub read_on : (a b c : DiskState) (book : Book) → IsDisk b → Keeps a b book → Looks b c → Keeps a c book
 read_on a b c book disk keeps looks = looked_on a b c (λ x. Continues book.shape book.head (listed book a.reads_as) x ⊎ ((is_tried book.spare ≡ true) × Stands book.shape (next_head book) (rows book a.reads_as) x)) disk keeps looks

@@ -46,11 +46,11 @@ stopped_since : (lacking : Option Change) (h later : List Entry) → AreReads la
 stopped_since None h later reads was = tt
 stopped_since (Some c) h later reads was = lasts_reading IsCut IsRestarted reading_not_restarted h later reads was
 
--- a restart is due still behind an entry that isn't one
+-- a restart is due still after an entry that isn't one
 pub due_more : (asked : Op) (h : List Entry) (e : Entry) → (IsRestarted e → ⊥) → IsDueFor asked h → IsDueFor asked (h ++ e ∷ [])
 due_more asked h e not due = elim due [ inl is ↦ inl is | inr lasts ↦ inr (lasts_more (λ x. IsCut x ⊎ IsFailedRestart x) IsRestarted h e lasts not) ]
 
--- and behind one that is a restart that failed
+-- and after one that is a restart that failed
 pub due_now : (own : ℕ) (asked : Op) (q : Cause) (h : List Entry) → IsDueFor asked h → IsRestartDue (h ++ entry own asked (Failed q) ∷ [])
 due_now own asked q h due = elim due [
   | inl is ↦ lasts_now (λ x. IsCut x ⊎ IsFailedRestart x) IsRestarted h (entry own asked (Failed q)) (inr (is, (q, refl)))

@@ -22,7 +22,7 @@ use Rattle.roll_engine.specs.Rollings.{RollingAt}
 use Rattle.xc_core.specs.Seeing.{HasFailed, HasHeld, HasRestart, HasStopped, IsDueFor}
 use Rattle.xc_core.specs.States.{IsReadyOrHalted, Opening, StandsFor, most_room, with_home}
 use Rattle.xc_core.specs.Turns.{HeldIs}
-use Rattle.xc_core.proofs.Copying.{room_copied, stage_second}
+use Rattle.xc_core.proofs.Copying.{room_copied, stage_replayed}
 use Rattle.xc_core.proofs.Homing.{held_failed, held_resumed, held_stopped, held_taken}
 use Rattle.xc_core.proofs.Restarting.{found_stage}
 use Rattle.xc_core.proofs.Within.{stands_back}
@@ -53,19 +53,19 @@ module _ {D : Type 0} (told : Type 0) (state : D → DiskState) (counts : (d : D
   pub was_ready : (own : ℕ) (asked : Op) → ((p.halted ≡ true) ⊎ (asked ≡ Restart) → ⊥) → HeldIs told state o own h asked (with_home (In d) s) held.Waits
   was_ready own asked not = (stands_back told state counts o s h st (In d) is, inr (λ same. not (inr same), elim (found_stage told state o s h st d is) [ inl a ↦ a.1 | inr b ↦ absurd (not (inl b.0.halted)) ]))
 
-  -- it keeps what stands behind the changes
+  -- it keeps what there is after the changes
   pub keeps_found : KeepsPast st.now p
   keeps_found = elim (found_stage told state o s h st d is) [ inl a ↦ a.0.past | inr a ↦ a.0.past ]
 
   -- or it is taken out, with a copy of the table
-  pub was_taken : (own : ℕ) (asked : Op) → (p.halted ≡ true) ⊎ (asked ≡ Restart) → (e : Board) → e ≡ s.table → (f : Boxed D) → f.value.p ≡ record p { second = record p.second { expected = e } } → HeldIs told state o own h asked (with_home (Out errand.Restart) s) (held.Held f)
+  pub was_taken : (own : ℕ) (asked : Op) → (p.halted ≡ true) ⊎ (asked ≡ Restart) → (e : Board) → e ≡ s.table → (f : Boxed D) → f.value.p ≡ record p { replayed = record p.replayed { expected = e } } → HeldIs told state o own h asked (with_home (Out errand.Restart) s) (held.Held f)
   was_taken own asked why e copied f same =
       let room = room_copied st.now p keeps_found e (copied ∙ st.table) in
       held_taken told state o s h st d is own asked (due_found asked why) f (ap (λ (x : Provisioner D). x.journal) same) (ap (λ (x : Provisioner D). ground_of x) same) (ap (λ (x : Provisioner D). x.doubt) same) (ap (λ (x : Provisioner D). x.halted) same)
-      (subst (λ (x : Provisioner D). IsReadyOrHalted told state st.now h x) (sym same) (stage_second told state st.now p (record p.second { expected = e }) room h (found_stage told state o s h st d is)))
-      (ap (λ (x : Provisioner D). x.second.expected) same ∙ copied)
+      (subst (λ (x : Provisioner D). IsReadyOrHalted told state st.now h x) (sym same) (stage_replayed told state st.now p (record p.replayed { expected = e }) room h (found_stage told state o s h st d is)))
+      (ap (λ (x : Provisioner D). x.replayed.expected) same ∙ copied)
 
--- what settling and recovering left of a Provisioner that was taken out: m behind the one, q behind both
+-- what settling and recovering left of a Provisioner that was taken out: m after the one, q after both
 module _ {D : Type 0} (told : Type 0) (state : D → DiskState) (o : Opening) (own : ℕ) (asked : Op) (h : List Entry) (p m : Provisioner D) (x : HasHeld told state o own asked h p) (driven : IsDriven asked)
     (ground : ground_of m ≡ ground_of p) (kept : StillDoubts p m) (later : (state p.journal.0).faults ≤ (state m.journal.0).faults) (spent : Spends 3 (state p.journal.0) (state m.journal.0)) where
   -- the settling failed

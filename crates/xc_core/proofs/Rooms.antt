@@ -1,4 +1,4 @@
--- What a replay behind a call on the journal takes of the disk's room, and counts of its faults.
+-- What a replay after a call on the journal takes of the disk's room, and counts of its faults.
 use Rattle.std.proofs.Common.{◌≤◌, ◌+◌, ℕ, arith}
 use Rattle.dxc_causes.specs.Causes.{HasCause, Rose}
 use Rattle.dxc_disk.specs.Disks.{DiskState, IsSound, Spends}
@@ -15,7 +15,7 @@ few_counted book whole = omega (arith, whole.limit, most_most book.half book.hea
 pub replay_room : (n : ℕ) (a b c : DiskState) (book : Book) → IsWhole book → Spends n a b → Spends book.count b c → Spends (n + 65_536) a c
 replay_room n a b c book whole called looked = spends_on n 65_536 a b c called (spends_more book.count 65_536 b c (few_counted book whole) looked)
 
--- what is sound for both is sound for the replay behind the call
+-- what is sound for both is sound for the replay after the call
 pub replay_sound : (n : ℕ) (a b : DiskState) (book : Book) → IsWhole book → a.faults ≤ b.faults → Spends n a b → IsSound (n + 65_536) a → IsSound book.count b
 replay_sound n a b book whole later called sound =
     let few = few_counted book whole in

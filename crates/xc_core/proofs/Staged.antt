@@ -39,7 +39,6 @@ resumed_at z m w d made phase now switches (recovered.Cold r) some stage log at 
 )
 resumed_at z m w d made phase now switches (recovered.Astray i) some stage log at rest = absurd rest
 resumed_at z m w d made phase now switches recovered.Fault some stage log at rest = absurd rest
-resumed_at z m w d made phase now switches recovered.Stopped some stage log at rest = absurd rest
 
 -- how many switches will have been made, where the registers are at this stage
 pub switches_at : (z : Size) (m : Mover) (w : Work) (d : Colouring) (made all : ℕ) → (b : Colouring) × IsLastWork b w.ops.items d → ((b : Colouring) → IsLastWork b w.ops.items d → IsStage z b (writes_of w) m (At made)) → all ≡ length m.log + switches_in (drop made (writes_of w)) → all ≤ 2 ^ 48

@@ -105,7 +105,7 @@ module _ (z : Size) (m : Mover) (c d : Colouring) (ops : List LegOp) (last : IsL
       (λ granted. stage_once last.table c last.change last.choices ops s u last.placed granted last.works ls lu (sym here.course ∙ there.course))
       last.granted
 
--- what stands behind where a change is taken up is one
+-- what there is after a change was taken up is one
 module _ (b : Past) (doubt : Option Op) where
   same_some : {x y : Op} → Some x ≡ Some y → x ≡ y
   same_some e = cc

@@ -1,9 +1,9 @@
--- What a place sees in a turn, and behind it.
+-- What a place sees in a turn, and after it.
 use Rattle.std.proofs.Common.{◌≡◌, ◌≢◌, ◌≤◌, ◌<◌, ℕ, arith, true, cond, inl, inr, length, length-append, List, [], ◌∷◌, ◌++◌, append-nil, Option, Some, None, refl, sym, ◌∙◌, ap, subst, append_assoc}
 use Rattle.std.proofs.lemmas.Bool.Decides.{eqb_tells}
 use Rattle.std.proofs.lemmas.List.{map-append}
 use base.Stored.{Gv}
-use Rattle.turnstile.specs.Passing.{Gate, Token}
+use Rattle.turnstile.specs.Passing.{TurnstileView, Token}
 use Rattle.turnstile.specs.Turning.{Each, Found}
 use Rattle.turnstile.proofs.Lists.{each_append, map_once}
 use Rattle.dxc_disk.specs.Disks.{DiskState}
@@ -89,13 +89,13 @@ changes_longer h later =
     let number = length-append (changes_of h) (changes_of later) in
     omega (arith, joined, number)
 
--- what holds of all entries holds of those behind some
+-- what holds of all entries holds of those after some
 never_behind : (h l : List Entry) → IsNeverAstray (h ++ l) → IsNeverAstray l
 never_behind [] l never = never
 never_behind (e ∷ es) l never = never_behind es l never.1
 
 -- a pass that comes back from a turn
-pub pass_back : {X : Type 0} (t : Gate X) (p q : Token) → HasPass t p → q.free ≡ true → q.id ≡ t.id → q.number ≡ p.number → AreNumbered t.passes q.seen → HasPass t q × (q.number ≡ p.number)
+pub pass_back : {X : Type 0} (t : TurnstileView X) (p q : Token) → HasPass t p → q.free ≡ true → q.id ≡ t.id → q.number ≡ p.number → AreNumbered t.passes q.seen → HasPass t q × (q.number ≡ p.number)
 pass_back t p q pass free id number numbered = ((free, id, subst (λ (n : ℕ). n < t.passes) (sym number) pass.2, numbered), number)
 
 -- operation and outcome of an entry
@@ -122,7 +122,7 @@ module _ {D : Type 0} (told : Type 0) (state : D → DiskState) where
   pub state_shape : (o : Opening) (s : State D) (h : List Entry) → StandsFor told state o s h → s.table.shape ≡ o.first.fold.table.shape
   state_shape o s h st = ap (λ (b : Board). b.shape) (table_is told state o s h st) ∙ table_shape o.first.fold.table h
 
-  -- a turn of the place finds a state that stands for the history, and for others' entries behind it
+  -- a turn of the place finds a state that stands for the history, and for others' entries after it
   pub record FoundAt (o : Opening) (own : ℕ) (h : List Entry) (x : State D) (in_turn : List Gv) : Type 0 where
     pub later : List Entry
     pub others : Each (λ e. e.place ≢ own) later

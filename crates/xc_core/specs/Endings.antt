@@ -21,14 +21,12 @@ IfWarm (recovered.Warm r) P = P r
 IfWarm (recovered.Cold r) P = Unit {0}
 IfWarm (recovered.Astray i) P = Unit {0}
 IfWarm recovered.Fault P = Unit {0}
-IfWarm recovered.Stopped P = Unit {0}
 
 abbrev pub IfCold : Recovered → (RollingAt → Type 0) → Type 0
 IfCold (recovered.Warm r) P = Unit {0}
 IfCold (recovered.Cold r) P = P r
 IfCold (recovered.Astray i) P = Unit {0}
 IfCold recovered.Fault P = Unit {0}
-IfCold recovered.Stopped P = Unit {0}
 
 -- the same, with so many switches made
 abbrev pub with_switches : ℕ → Past → Past

@@ -1,10 +1,11 @@
 -- What the calls say, with what belongs together as one, and a disk by all members of its trait.
-use Rattle.std.specs.Prelude.{ℕ, List, Option}
+use Rattle.std.specs.Prelude.{◌≡◌, ℕ, List, Option, Result, Ok, Err}
 use Rattle.dxc_disk.specs.declared.disk.Disk.{Ghosts as DiskOf}
 use Rattle.dxc_model.specs.declared.entry.Entry.{Entry}
 use Rattle.dxc_model.specs.declared.op.Op.{Op}
 use Rattle.dxc_model.specs.declared.op.Change.{Change}
 use Rattle.dxc_model.specs.Tables.{Board}
+use Rattle.dxc_outside.specs.declared.stopped.Stopped.{Stopped}
 use Rattle.fabric_core.specs.declared.size.Size.{Size}
 use Rattle.fabric_core.specs.declared.mover.Mover.{Mover}
 use Rattle.fabric_core.specs.declared.phase.Phase.{Phase}
@@ -17,7 +18,7 @@ use Rattle.xc_core.specs.declared.noting.Noted.{Noted}
 use Rattle.xc_core.specs.declared.provisioner.Driver.{Driver}
 use Rattle.xc_core.specs.declared.provisioner.Provisioner.{Provisioner}
 use Rattle.xc_core.specs.declared.recovery.Recovered.{Recovered}
-use Rattle.xc_core.specs.declared.second.Second.{Second}
+use Rattle.xc_core.specs.declared.replayed.Replayed.{Replayed}
 use Rattle.xc_core.specs.Begins.{NotedIs, Plan}
 use Rattle.xc_core.specs.Beside.{IsBeside}
 use Rattle.xc_core.specs.Drives.{Recovers}
@@ -31,7 +32,7 @@ use Rattle.xc_core.specs.Restarts.{Rejoins, Resumes}
 use Rattle.xc_core.specs.Seeing.{HasRestart, HasTaken}
 use Rattle.xc_core.specs.States.{Opening}
 
--- an operation, the change that it is granted, and what stands behind the changes before it
+-- an operation, the change that it is granted, and what there is after the changes before it
 pub record Grant : Type 0 where
   pub before : Past
   pub op : Op
@@ -40,7 +41,7 @@ pub record Grant : Type 0 where
 abbrev pub grant_of : Past → Op → Change → Grant
 grant_of b op c = record { before = b; op = op; change = c }
 
--- a change that was driven by this rolling, and what stands behind the changes before it
+-- a change that was driven by this rolling, and what there is after the changes before it
 pub record Driven : Type 0 where
   pub before : Past
   pub change : Change
@@ -49,7 +50,7 @@ pub record Driven : Type 0 where
 abbrev pub driven_by : Past → Change → RollingAt → Driven
 driven_by b c r = record { before = b; change = c; rolling = r }
 
--- what a recovery takes up: what stands behind the changes so far, the change that the table lacks, if it lacks one, and what stands behind that
+-- what a recovery takes up: what there is after the changes so far, the change that the table lacks, if it lacks one, and what there is after that
 pub record TakenUp : Type 0 where
   pub before : Past
   pub lacking : Option Change
@@ -58,13 +59,13 @@ pub record TakenUp : Type 0 where
 abbrev pub taken_up : Past → Option Change → Past → TakenUp
 taken_up b lacking g = record { before = b; lacking = lacking; behind = g }
 
--- a plan, and what stands behind the changes before it
+-- a plan, and what there is after the changes before it
 pub record Planned : Type 0 where
   pub before : Past
   pub plan : Plan
 
-abbrev pub planned_behind : Past → Plan → Planned
-planned_behind b plan = record { before = b; plan = plan }
+abbrev pub planned_after : Past → Plan → Planned
+planned_after b plan = record { before = b; plan = plan }
 
 -- an outing of the Provisioner: the opening, the place's number, the history so far, and the operation that it is out for
 pub record Outing : Type 0 where
@@ -95,10 +96,12 @@ module _ {D : Type 0} (g : DiskOf D) where
   abbrev pub EndsFor : TakenUp → Board → Provisioner D → Option Change → Type 0
   EndsFor w table p answer = Ends g.told g.state w.before w.lacking w.behind table p answer
 
-  abbrev pub RecoveredAs : Past → (old new : Provisioner D) → Recovered → Type 0
-  RecoveredAs b old new answer = RecoveredIs g.told g.state b old new answer
+  -- A stop: nothing was read.
+  abbrev pub RecoveredAs : Past → (old new : Provisioner D) → Result Recovered Stopped → Type 0
+  RecoveredAs b old new (Ok answer) = RecoveredIs g.told g.state b new answer
+  RecoveredAs b old new (Err stopped) = new ≡ old
 
-  abbrev pub NotedAs : Planned → (old new : Provisioner D) → Noted → Type 0
+  abbrev pub NotedAs : Planned → (old new : Provisioner D) → Result Noted Stopped → Type 0
   NotedAs w old new answer = NotedIs g.told g.state w.before old new w.plan answer
 
   -- the Provisioner is out for a change, by the one and the rolling that it drives
@@ -113,11 +116,11 @@ module _ {D : Type 0} (g : DiskOf D) where
 abbrev pub StillCountsIn : (old new : JournalAt) → Board → Colouring → Type 0
 StillCountsIn old new t c = StillCounts old.disk old.book new.disk new.book t c
 
--- a Provisioner's second table and matrix, beside what stands behind the changes
-abbrev pub IsSecond : Past → Second → Colouring → Option Op → ℕ → Type 0
-IsSecond b second m doubt spent = IsBeside b second m second.expected doubt spent
+-- a Provisioner's replayed table and matrix, beside what there is after the changes
+abbrev pub IsReplayed : Past → Replayed → Colouring → Option Op → ℕ → Type 0
+IsReplayed b replayed m doubt spent = IsBeside b replayed m replayed.expected doubt spent
 
--- a journal's last work, the colouring that it led to, and how many switches there are behind it
+-- a journal's last work, the colouring that it led to, and how many switches there are after it
 pub record LastWork : Type 0 where
   pub ops : List LegOp
   pub colours : Colouring

@@ -23,7 +23,7 @@ use Rattle.xc_recovery.specs.Stages.{IsLastWork}
 use Rattle.xc_core.specs.declared.provisioner.Provisioner.{Provisioner}
 use Rattle.xc_core.specs.declared.recovery.Recovered.{Recovered}
 use Rattle.xc_core.specs.declared.recovery.Recovered.TheVariants as recovered
-use Rattle.xc_core.specs.declared.second.Given.{Given}
+use Rattle.xc_core.specs.declared.replayed.Given.{Given}
 use Rattle.xc_core.specs.Reckonings.{IsTable, Past}
 use Rattle.xc_core.specs.Journals.{IsJournalled}
 use Rattle.xc_core.specs.Restarts.{IsHalted, IsKnown, IsListOf, TakesUp}
@@ -50,12 +50,12 @@ abbrev pub IsCold : Size → Mover → List LegOp → Colouring → ℕ → Type
 IsCold z m ops c switches = (before : Colouring) (s : ℕ) → IsLastWork before ops c → s ≤ length (ops_writes ops) → IsMidway z before (ops_writes ops) s m → length m.log + switches_in (drop s (ops_writes ops)) ≢ switches
 
 module _ {D : Type 0} (told : Type 0) (state : D → DiskState) where
-  -- what the journal lists is what stands behind a way on which the registers are, and no crash takes anything back
+  -- what the journal lists is what there is after a way on which the registers are, and no crash takes anything back
   pub record IsListed (b : Past) (p : Provisioner D) : Type 0 where
     pub known : IsKnown told state b p
     pub journalled : IsJournalled told (state p.journal.0) p.journal.1 (IsListOf b p.doubt known.way.lacking)
 
-  -- so many records were read, those that the journal lists, and come to the second matrix and table by this last work
+  -- so many records were read, those that the journal lists, and come to the replayed matrix and table by this last work
   pub record Reads (b : Past) (p : Provisioner D) (ops : List LegOp) : Type 0 where
     pub halted : IsHalted told state b p
     pub whole : p.journal.1.to_mend ≡ false
@@ -64,23 +64,23 @@ module _ {D : Type 0} (told : Type 0) (state : D → DiskState) where
     pub records : List (List ℕ)
     pub number : length records ≡ p.journal.1.count
     pub records_are : told → records ≡ listed p.journal.1 (state p.journal.0).reads_as
-    pub comes : ComesTo p.journal.1.shape p.journal.1.head records p.second.table p.second.matrix ops
+    pub comes : ComesTo p.journal.1.shape p.journal.1.head records p.replayed.table p.replayed.matrix ops
 
-  -- they give what stands behind then
+  -- they give what there is then
   pub record Finds (b : Past) (p : Provisioner D) (lacking : Option Change) (g : Past) (ops : List LegOp) : Type 0 where
     pub records : List (List ℕ)
     pub number : length records ≡ p.journal.1.count
     pub records_are : told → records ≡ listed p.journal.1 (state p.journal.0).reads_as
-    pub comes : ComesTo p.journal.1.shape p.journal.1.head records p.second.table p.second.matrix ops
+    pub comes : ComesTo p.journal.1.shape p.journal.1.head records p.replayed.table p.replayed.matrix ops
     pub taken : TakesUp b p.doubt lacking g
-    pub given : IsTable g p.second.table p.second.matrix
+    pub given : IsTable g p.replayed.table p.replayed.matrix
 
   -- the record of this number is the first bad one of those that were read; or so many give neither
   pub record IsAstray (b : Past) (p : Provisioner D) (i : ℕ) : Type 0 where
     pub records : List (List ℕ)
     pub number : length records ≡ p.journal.1.count
-    pub astray : Replays p.journal.1.shape p.journal.1.head records (Err (BadRecord i)) p.second.table p.second.matrix
-        ⊎ ((i ≡ length records) × Reaches p.journal.1.shape p.journal.1.head records p.second.table p.second.matrix × IsNeither b p.doubt p.second.table p.second.matrix)
+    pub astray : Replays p.journal.1.shape p.journal.1.head records (Err (BadRecord i)) p.replayed.table p.replayed.matrix
+        ⊎ ((i ≡ length records) × Reaches p.journal.1.shape p.journal.1.head records p.replayed.table p.replayed.matrix × IsNeither b p.doubt p.replayed.table p.replayed.matrix)
 
   -- Ok: the records were read. A bad one: it is the first.
   abbrev pub ReadIs : Past → Provisioner D → Result Work ReplayFault → Type 0
@@ -88,12 +88,11 @@ module _ {D : Type 0} (told : Type 0) (state : D → DiskState) where
   ReadIs b p (Err (BadRecord i)) = IsAstray b p i
   ReadIs b p (Err Disk) = Unit {0}
 
-  abbrev pub RecoveredIs : Past → Provisioner D → Provisioner D → Recovered → Type 0
-  RecoveredIs b old new (recovered.Warm r) = (lacking : Option Change) × (g : Past) × (ops : List LegOp) × Finds b new lacking g ops × IsWarm new.mover.fabric.size new.mover.mover ops g.fold.colours g.fold.switches r
-  RecoveredIs b old new (recovered.Cold r) = (lacking : Option Change) × (g : Past) × (ops : List LegOp) × Finds b new lacking g ops × IsCold new.mover.fabric.size new.mover.mover ops g.fold.colours g.fold.switches × IsColdFrom new.mover.mover.phase r
-  RecoveredIs b old new (recovered.Astray i) = IsAstray b new i
-  RecoveredIs b old new recovered.Fault = Unit {0}
-  RecoveredIs b old new recovered.Stopped = new ≡ old
+  abbrev pub RecoveredIs : Past → Provisioner D → Recovered → Type 0
+  RecoveredIs b new (recovered.Warm r) = (lacking : Option Change) × (g : Past) × (ops : List LegOp) × Finds b new lacking g ops × IsWarm new.mover.fabric.size new.mover.mover ops g.fold.colours g.fold.switches r
+  RecoveredIs b new (recovered.Cold r) = (lacking : Option Change) × (g : Past) × (ops : List LegOp) × Finds b new lacking g ops × IsCold new.mover.fabric.size new.mover.mover ops g.fold.colours g.fold.switches × IsColdFrom new.mover.mover.phase r
+  RecoveredIs b new (recovered.Astray i) = IsAstray b new i
+  RecoveredIs b new recovered.Fault = Unit {0}
 
 -- what is found of a last work
 abbrev pub ResumedIs : Size → Mover → List LegOp → Colouring → ℕ → Recovered → Type 0
@@ -101,12 +100,10 @@ ResumedIs z m ops c switches (recovered.Warm r) = IsWarm z m ops c switches r
 ResumedIs z m ops c switches (recovered.Cold r) = IsCold z m ops c switches × IsColdFrom m.phase r
 ResumedIs z m ops c switches (recovered.Astray i) = ⊥
 ResumedIs z m ops c switches recovered.Fault = ⊥
-ResumedIs z m ops c switches recovered.Stopped = ⊥
 
--- the rest of a work behind so many writes, if so many switches will have been made; or a cold rolling, from this phase on
+-- the rest of a work after so many writes, if so many switches will have been made; or a cold rolling, from this phase on
 abbrev pub RestIs : Work → ℕ → Phase → ℕ → ℕ → Recovered → Type 0
 RestIs w made phase now switches (recovered.Warm r) = (r ≡ record { work = w; step = made; behind = Nothing }) × (now + switches_in (drop made (writes_of w)) ≡ switches)
 RestIs w made phase now switches (recovered.Cold r) = (now + switches_in (drop made (writes_of w)) ≢ switches) × IsColdFrom phase r
 RestIs w made phase now switches (recovered.Astray i) = ⊥
 RestIs w made phase now switches recovered.Fault = ⊥
-RestIs w made phase now switches recovered.Stopped = ⊥

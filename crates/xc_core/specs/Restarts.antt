@@ -1,4 +1,4 @@
--- The Provisioner behind a stop, and on its way home.
+-- The Provisioner after a stop, and on its way home.
 use Rattle.std.specs.Prelude.{◌≡◌, ◌⊎◌, ◌≤◌, ◌^◌, ℕ, ◌+◌, List, [], length, true, false, Option, Some, None}
 use Rattle.dxc_disk.specs.Disks.{DiskState}
 use Rattle.dxc_num.specs.declared.register.RegWrite.{RegWrite}
@@ -23,7 +23,7 @@ use Rattle.xc_core.specs.Journals.{IsAtHome, IsJournalled, IsOneMore, IsSoFar, K
 use Rattle.xc_core.specs.Reckonings.{HasWork, Past, changed}
 use Rattle.xc_core.specs.Provisioners.{KeepsPast}
 
--- what stands behind where a recovery takes up a change that the table lacks, which is that of the operation in doubt, or none
+-- what there is after a recovery took up a change that the table lacks, which is that of the operation in doubt, or none
 abbrev pub TakesUp : Past → Option Op → Option Change → Past → Type 0
 TakesUp b doubt None g = g ≡ b
 TakesUp b doubt (Some c) g = (op : Op) × (doubt ≡ Some op) × Grants b.fold.table op c × (met : HasWork b c None) × (g ≡ changed b c met.ops)
@@ -77,14 +77,14 @@ module _ {D : Type 0} (told : Type 0) (state : D → DiskState) where
     pub own : IsOwnWay (state p.journal.0) p.journal.1 b way.lacking way.before way.past way.rolling
     pub journal : Lists b p way.lacking
 
-  -- home and halted: it keeps what stands behind the changes so far, and the registers are at a stage of the last work of what the journal lists
+  -- home and halted: it keeps what there is after the changes so far, and the registers are at a stage of the last work of what the journal lists
   pub record IsHalted (b : Past) (p : Provisioner D) : Type 0 where
     pub halted : p.halted ≡ true
     pub past : KeepsPast b p
     pub way : HasWay b p
     pub known : told → IsKnown b p
 
-  -- halted, but its recovery goes on: g stands behind where the rolling is made
+  -- halted, but its recovery goes on: g is what there is once the rolling is made
   pub record Resumes (b : Past) (lacking : Option Change) (g : Past) (p : Provisioner D) (r : RollingAt) : Type 0 where
     pub halted : p.halted ≡ true
     pub past : KeepsPast b p
@@ -93,21 +93,21 @@ module _ {D : Type 0} (told : Type 0) (state : D → DiskState) where
     pub on_way : IsOnWay p before g r
     pub own : told → IsOwnWay (state p.journal.0) p.journal.1 b lacking before g r
     pub journalled : IsJournalled told (state p.journal.0) p.journal.1 (IsListOf b p.doubt lacking)
-    pub matrix : p.second.matrix ≡ g.fold.colours
-    pub lacks : p.second.lacking ≡ lacking
+    pub matrix : p.replayed.matrix ≡ g.fold.colours
+    pub lacks : p.replayed.lacking ≡ lacking
 
--- all that a recovery reads is found: g stands behind where its rolling is made
+-- all that a recovery reads is found: g is what there is once its rolling is made
 pub record IsFound {D : Type 0} (told : Type 0) (state : D → DiskState) (b : Past) (lacking : Option Change) (g : Past) (p : Provisioner D) : Type 0 where
   pub halted : p.halted ≡ true
   pub past : KeepsPast b p
   pub taken : TakesUp b p.doubt lacking g
   pub journalled : IsJournalled told (state p.journal.0) p.journal.1 (IsListOf b p.doubt lacking)
-  pub matrix : p.second.matrix ≡ g.fold.colours
-  pub lacks : p.second.lacking ≡ lacking
+  pub matrix : p.replayed.matrix ≡ g.fold.colours
+  pub lacks : p.replayed.lacking ≡ lacking
 
 -- the writes that a cold rolling has left for this Provisioner
 abbrev pub writes_left : {D : Type 0} → Provisioner D → RollingAt → List RegWrite
-writes_left p r = left_of p.second.matrix p.mover.mover r
+writes_left p r = left_of p.replayed.matrix p.mover.mover r
 
 -- there are switch numbers for the joins that it has left
 abbrev pub HasNumbers : {D : Type 0} → Provisioner D → RollingAt → Type 0
@@ -117,4 +117,4 @@ HasNumbers p r = length p.mover.mover.log + switches_in (writes_left p r) ≤ 2 
 pub record Rejoins {D : Type 0} (told : Type 0) (state : D → DiskState) (b : Past) (lacking : Option Change) (g : Past) (p : Provisioner D) (r : RollingAt) : Type 0 where
   pub found : IsFound told state b lacking g p
   pub cold : IsCold r
-  pub leading : IsLeading p.mover.fabric.size p.second.matrix (writes_left p r) p.mover.mover
+  pub leading : IsLeading p.mover.fabric.size p.replayed.matrix (writes_left p r) p.mover.mover

@@ -2,7 +2,7 @@
 use Rattle.std.specs.Prelude.{◌≡◌, ◌≢◌, ◌⊎◌, ℕ, ◌+◌, ◌≤◌, min, slice_index, true, List, [], ◌∷◌, ◌++◌, map, Option, Some, None}
 use Rattle.std.specs.Coded.{Coded}
 use base.Stored.{Gv}
-use Rattle.turnstile.specs.Turning.{Each}
+use Rattle.turnstile.specs.Places.{TurnedBy, TurnedBackBy}
 use Rattle.dxc_causes.specs.Causes.{last}
 use Rattle.dxc_disk.specs.Disks.{DiskState}
 use Rattle.dxc_model.specs.contracts.entry.Entry as entry_row
@@ -52,17 +52,13 @@ pub record Saw (o : Opening) (seen : List Gv) (h : List Entry) : Type 0 where
 abbrev pub Rests : ℕ → List Entry → Type 0
 Rests own h = (t : Entry) → holder None h ≡ Some t → t.place ≢ own
 
--- behind the history stand others' entries, and then this one
-pub record Turned (o : Opening) (own : ℕ) (h : List Entry) (e : Entry) (then_seen : List Gv) : Type 0 where
-  pub later : List Entry
-  pub others : Each (λ x. x.place ≢ own) later
-  pub saw : Saw o then_seen ((h ++ later) ++ e ∷ [])
+-- after the history stand others' entries, and then this one
+abbrev pub Turned : Opening → ℕ → List Entry → Entry → List Gv → Type 0
+Turned = TurnedBy Saw place_of
 
--- behind it stand others' entries alone
-pub record TurnedBack (o : Opening) (own : ℕ) (h : List Entry) (then_seen : List Gv) : Type 0 where
-  pub later : List Entry
-  pub others : Each (λ x. x.place ≢ own) later
-  pub saw : Saw o then_seen (h ++ later)
+-- after it stand others' entries alone
+abbrev pub TurnedBack : Opening → ℕ → List Entry → List Gv → Type 0
+TurnedBack = TurnedBackBy Saw place_of
 
 -- how a denied operation is entered: what the table denies is Denied, all else Failed
 abbrev pub refused : Cause → Outcome
@@ -82,7 +78,7 @@ IsOfStop None h = Unit {0}
 IsOfStop (Some c) h = IsStopped h
 
 module _ {D : Type 0} (told : Type 0) (state : D → DiskState) where
-  -- a place has the Provisioner out for this operation, and all that stands behind it is as when it was taken
+  -- a place has the Provisioner out for this operation, and all that stands after it is as when it was taken
   pub record IsOut (o : Opening) (own : ℕ) (op : Op) (h : List Entry) (p : Provisioner D) : Type 0 where
     pub now : Past
     pub reckoned : ReckonsTo o.first (changes_of h) now
@@ -123,7 +119,7 @@ module _ {D : Type 0} (told : Type 0) (state : D → DiskState) where
     pub out : IsOut o own Restart h p
     pub unspent : SpendsOf o (room_in h) (state p.journal.0)
     pub stage : IsReadyOrHalted told state out.now h p
-    pub copied : p.second.expected ≡ out.now.fold.table
+    pub copied : p.replayed.expected ≡ out.now.fold.table
     pub doubt : DoubtsUnsettled h p
     pub due : IsDueFor asked h
 

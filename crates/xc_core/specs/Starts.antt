@@ -35,7 +35,7 @@ pub record IsBlank (d : Dimensions) (x : Blank) : Type 0 where
   pub table : x.table.shape ≡ d
   pub matrix : x.matrix.shape ≡ d
   pub fresh : x.reports ≡ no_changes
-  pub room : HasRoom d x.second
+  pub room : HasRoom d x.replayed
 
 -- As many records were read as the journal counts that was opened, where the disk tells its content these; table and matrix are what they
 -- come to. The Provisioner is otherwise as nothing made it.
@@ -43,7 +43,7 @@ pub record IsStart {D : Type 0} (told : Type 0) (state : D → DiskState) (shelf
   -- as it was opened
   pub journal : D × Book
   pub fresh : x.reports ≡ no_changes
-  pub held : x.p ≡ record { matrix = x.p.matrix; journal = x.p.journal; mover = seat; doubt = None; changes = 0; halted = false; spent = 0; second = x.p.second }
+  pub held : x.p ≡ record { matrix = x.p.matrix; journal = x.p.journal; mover = seat; doubt = None; changes = 0; halted = false; spent = 0; replayed = x.p.replayed }
   pub old : told → (IsNew a.reads_as → ⊥) → OpensOld shelf.shape a (state journal.0) (Ok journal.1)
   pub new : told → IsNew a.reads_as → OpensNew shelf.shape (made_head shelf.equipped) a (state journal.0) (Ok journal.1)
   pub whole_book : IsWhole journal.1
@@ -57,9 +57,9 @@ pub record IsStart {D : Type 0} (told : Type 0) (state : D → DiskState) (shelf
   pub number : length records ≡ journal.1.count
   pub read : told → records ≡ listed journal.1 (state journal.0).reads_as
   pub comes : ComesTo journal.1.shape journal.1.head records x.table x.p.matrix x.last.ops.items
-  pub room : HasRoom shelf.shape x.p.second
+  pub room : HasRoom shelf.shape x.p.replayed
 
--- the same, with its Provisioner behind a box
+-- the same, with its Provisioner in a box
 pub record IsHoused {D : Type 0} (x : Start D) (h : Housed D) : Type 0 where
   pub table : h.beside.table ≡ x.table
   pub reports : h.beside.reports ≡ x.reports

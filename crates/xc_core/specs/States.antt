@@ -28,7 +28,7 @@ use Rattle.xc_core.specs.Reckonings.{Past, Meets, ReckonsTo}
 use Rattle.xc_core.specs.Provisioners.{Ground, IsHome, ground_of}
 use Rattle.xc_core.specs.Restarts.{IsHalted}
 
--- where a history begins: fabric and journal, the records that the journal listed then, what stood behind it, whether a restart was due, and
+-- where a history begins: fabric and journal, the records that the journal listed then, what there was after it, whether a restart was due, and
 -- of the journal's disk the count of faults, the margin and the room
 pub record Opening : Type 0 where
   pub site : Ground
@@ -73,7 +73,7 @@ began false = []
 abbrev pub with_home : {D : Type 0} → Home D → State D → State D
 with_home x s = record s { home = x }
 
--- the limit of a change, behind the changes so far
+-- the limit of a change, after the changes so far
 abbrev pub LimitBehind : Past → List Change → Change → Option Cause → Type 0
 LimitBehind first cs c met = (b : Past) × ReckonsTo first cs b × Meets b c met
 
@@ -177,6 +177,6 @@ module _ {D : Type 0} (told : Type 0) (state : D → DiskState) where
     pub astray : told → IsNeverAstray h
     pub home : HomeIs o now h s.home
 
-  -- it stands for what its opening counts as, and the entries behind that
+  -- it stands for what its opening counts as, and the entries after that
   abbrev pub Stands : State D → List Entry → Type 0
   Stands s h = StandsFor (opening_of state s) s (began (opening_of state s).due ++ h)

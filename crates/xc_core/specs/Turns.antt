@@ -1,11 +1,12 @@
 -- What a turn of a place comes to.
-use Rattle.std.specs.Prelude.{◌≡◌, ◌≢◌, ◌<◌, ◌⊎◌, ℕ, true, List, [], ◌∷◌, ◌++◌, filter, length, min, Option, Some, None, IfSome}
+use Rattle.std.specs.Prelude.{◌≡◌, ◌≢◌, ◌<◌, ◌⊎◌, ℕ, true, List, [], ◌∷◌, ◌++◌, filter, length, min, Option, Some, None, Result, Ok, Err, IfSome}
 use Rattle.std.specs.List.{range_with_len}
 use base.Stored.{Gv}
-use Rattle.turnstile.specs.Passing.{Gate, Token}
-use Rattle.turnstile.specs.Turning.{Each}
+use Rattle.turnstile.specs.Passing.{TurnstileView, Token}
+use Rattle.turnstile.specs.Places.{AreNumberedBy, HasPassBy}
 use Rattle.dxc_disk.specs.Disks.{DiskState}
 use Rattle.dxc_disk.specs.declared.disk.Disk.{Ghosts as DiskOf}
+use Rattle.dxc_outside.specs.declared.stopped.Stopped.{Stopped}
 use Rattle.dbchg_reports.specs.Recent.{SinceIs, recent_of}
 use Rattle.dxc_num.specs.Dimensions.{Dimensions, IsWorking}
 use Rattle.dxc_model.specs.declared.conn.Conn.{Conn}
@@ -37,15 +38,15 @@ use Rattle.xc_core.specs.declared.state.Home.{Home}
 use Rattle.xc_core.specs.declared.state.Home.TheVariants.{In, Out}
 use Rattle.xc_core.specs.Begins.{plan_of}
 use Rattle.xc_core.specs.States.{IsLent, IsNeverAstray, Opening, StandsFor}
-use Rattle.xc_core.specs.Seeing.{HasFailed, HasHeld, HasPlan, HasRestart, HasStopped, IsDueFor, IsOfStop, Turned, TurnedBack, codes, entry, refused}
+use Rattle.xc_core.specs.Seeing.{HasFailed, HasHeld, HasPlan, HasRestart, HasStopped, IsDueFor, IsOfStop, Turned, TurnedBack, codes, entry, place_of, refused}
 
 -- each entry that was seen carries the number of one of so many passes
 abbrev pub AreNumbered : ℕ → List Gv → Type 0
-AreNumbered passes seen = (h : List Entry) → seen ≡ codes h → Each (λ e. e.place < passes) h
+AreNumbered = AreNumberedBy codes place_of
 
 -- the pass is one of the turnstile's, no turn of it is out, and what it has seen are entries of the turnstile's passes
-abbrev pub HasPass : {X : Type 0} → Gate X → Token → Type 0
-HasPass t p = (p.free ≡ true) × (p.id ≡ t.id) × (p.number < t.passes) × AreNumbered t.passes p.seen
+abbrev pub HasPass : {X : Type 0} → TurnstileView X → Token → Type 0
+HasPass = HasPassBy codes place_of
 
 -- of a disk that tells its content, no operation that was seen failed because the journal reads otherwise than it was written
 abbrev pub SawNoneAstray : Type 0 → List Gv → Type 0
@@ -81,14 +82,14 @@ abbrev pub MayNotRestart : Op → List Entry → Type 0
 MayNotRestart asked h = IsLent h ⊎ ((asked ≢ Restart) × (IsStopped h → ⊥))
 
 module _ {D : Type 0} (told : Type 0) (state : D → DiskState) where
-  -- the state of a turn in which a change was to begin, behind the history
+  -- the state of a turn in which a change was to begin, after the history
   abbrev pub TakenIs : Opening → ℕ → List Entry → Op → State D → Took D → Type 0
   TakenIs o own h op s (Rolling d bytes) = StandsFor told state o s (h ++ entry own op Taken ∷ []) × HasPlan told state o own (h ++ entry own op Taken ∷ []) d.value.p (plan_of op d.value.rolling bytes)
   TakenIs o own h op s (Denied q) = StandsFor told state o s (h ++ entry own op (refused q) ∷ []) × (IsStopped h → ⊥) × (IsFault q → ⊥)
   TakenIs o own h op s Halted = StandsFor told state o s h × IsRestartDue h
   TakenIs o own h op s Waits = StandsFor told state o s h × IsLent h
 
-  -- what the place has seen behind it
+  -- what the place has seen after it
   abbrev pub TookIs : Opening → ℕ → List Entry → Op → List Gv → Took D → Type 0
   TookIs o own h op then_seen (Rolling d bytes) = (t : Turned o own h (entry own op Taken) then_seen) × HasPlan told state o own ((h ++ t.later) ++ entry own op Taken ∷ []) d.value.p (plan_of op d.value.rolling bytes)
   TookIs o own h op then_seen (Denied q) = (t : Turned o own h (entry own op (refused q)) then_seen) × (IsStopped (h ++ t.later) → ⊥) × (IsFault q → ⊥)
@@ -100,16 +101,16 @@ module _ {D : Type 0} (told : Type 0) (state : D → DiskState) where
   HeldIs o own h asked s (held.Held d) = StandsFor told state o s (h ++ entry own Restart Taken ∷ []) × HasHeld told state o own asked (h ++ entry own Restart Taken ∷ []) d.value.p
   HeldIs o own h asked s held.Waits = StandsFor told state o s h × MayNotRestart asked h
 
-  -- what the place has seen behind it
+  -- what the place has seen after it
   abbrev pub HoldIs : Opening → ℕ → List Entry → Op → List Gv → Held D → Type 0
   HoldIs o own h asked then_seen (held.Held d) = (t : Turned o own h (entry own Restart Taken) then_seen) × HasHeld told state o own asked ((h ++ t.later) ++ entry own Restart Taken ∷ []) d.value.p
   HoldIs o own h asked then_seen held.Waits = (t : TurnedBack o own h then_seen) × MayNotRestart asked (h ++ t.later)
 
   -- what settling and reading left of a Provisioner that was taken out for a restart, outside of any turn
-  abbrev pub RereadIs : Opening → ℕ → Op → List Entry → Provisioner D → Reread → Type 0
-  RereadIs o own asked h p (reread.Warm r) = HasRestart told state o own asked h p r
-  RereadIs o own asked h p (reread.Failed q) = HasFailed told state o own Restart asked q h p
-  RereadIs o own asked h p reread.Stopped = HasStopped told state o own asked h p
+  abbrev pub RereadIs : Opening → ℕ → Op → List Entry → Provisioner D → Result Reread Stopped → Type 0
+  RereadIs o own asked h p (Ok (reread.Warm r)) = HasRestart told state o own asked h p r
+  RereadIs o own asked h p (Ok (reread.Failed q)) = HasFailed told state o own Restart asked q h p
+  RereadIs o own asked h p (Err stopped) = HasStopped told state o own asked h p
 
   -- by a fault of the journal it came home; what was known of it holds then, and no stop came
   abbrev pub FailedIs : Opening → ℕ → List Entry → Op → Cause → Provisioner D → List Gv → Type 0
@@ -139,7 +140,7 @@ RestartCutIs o own h asked then_seen = (t : Turned o own h (entry own Restart Cu
 abbrev pub RowsAre : Opening → ℕ → List Entry → Selection → List Gv → List Conn → Type 0
 RowsAre o own h which then_seen given = (t : Turned o own h (entry own (Rows which) Answered) then_seen) × (given ≡ rows (table_after o.first.fold.table (h ++ t.later)) which)
 
--- the changes behind the cursor, of those before the place's entry, and how many those are
+-- the changes after the cursor, of those before the place's entry, and how many those are
 abbrev pub LookIs : Opening → ℕ → List Entry → ℕ → List Gv → Looked → List Change → Type 0
 LookIs o own h cursor then_seen looked given = (t : Turned o own h (entry own (Look cursor) Answered) then_seen) × SinceIs (recent_of (changes_of (h ++ t.later))) (min cursor (length (changes_of (h ++ t.later)))) looked.since given × (looked.newest ≡ length (changes_of (h ++ t.later)))
 

@@ -1,9 +1,11 @@
 -- What a pass has seen of a turnstile's history, and what holds after it.
-use Rattle.std.specs.Prelude.{◌≡◌, ◌⊎◌, ℕ, List, [], ◌∷◌, ◌++◌, Option, Some, None}
+use Rattle.std.specs.Prelude.{◌≡◌, ◌⊎◌, ℕ, List, [], ◌∷◌, ◌++◌, Option, Some, None, Result}
 use Rattle.std.specs.List.{AllByRecursion}
-use Rattle.turnstile.specs.Passing.{Gate, Token}
+use Rattle.turnstile.specs.Passing.{TurnstileView, Token}
+use Rattle.turnstile.specs.Places.{AfterBy, HasSeenBy, UponBy, ViewOf, view_of}
 use Rattle.dxc_num.specs.Dimensions.{Dimensions}
 use Rattle.dxc_disk.specs.declared.disk.Disk.{Ghosts as DiskOf}
+use Rattle.dxc_outside.specs.declared.stopped.Stopped.{Stopped}
 use Rattle.dxc_model.specs.declared.cause.Cause.{Cause}
 use Rattle.dxc_model.specs.declared.conn.Conn.{Conn}
 use Rattle.dxc_model.specs.declared.entry.Entry.{Entry}
@@ -30,29 +32,28 @@ use Rattle.xc_core.specs.States.{Opening, StandsFor, opening_of}
 use Rattle.xc_core.specs.Turns.{CutIs, DoneIs, FailedIs, HeldIs, HoldIs, InventoryIs, LookIs, MarkIs, RereadIs, RestartCutIs, RestartedIs, RowsAre, TakenIs, TookIs}
 
 -- where the history began, and whose pass it is
-pub record View : Type 0 where
-  pub opening : Opening
-  pub own : ℕ
+abbrev pub View : Type 0
+View = ViewOf Opening
 
 -- of this pass of the turnstile
-abbrev pub view : {D : Type 0} → DiskOf D → Gate (State D) → Token → View
-view g t p = record { opening = opening_of g.state t.first; own = p.number }
+abbrev pub view : {D : Type 0} → DiskOf D → TurnstileView (State D) → Token → View
+view g = view_of (opening_of g.state) Saw
 
 -- the shape of the turnstile's table
-abbrev pub shape_in : {D : Type 0} → DiskOf D → Gate (State D) → Dimensions
+abbrev pub shape_in : {D : Type 0} → DiskOf D → TurnstileView (State D) → Dimensions
 shape_in g t = (opening_of g.state t.first).first.fold.table.shape
 
--- it is a history
-abbrev pub HasSeen : {D : Type 0} → DiskOf D → Gate (State D) → Token → Type 0
-HasSeen g t p = (h : List Entry) × Saw (opening_of g.state t.first) p.seen h
+-- what the pass has seen is a history
+abbrev pub HasSeen : {D : Type 0} → DiskOf D → TurnstileView (State D) → Token → Type 0
+HasSeen g = HasSeenBy (opening_of g.state) Saw
 
 -- after a history that was seen this holds
-abbrev pub Upon : {D : Type 0} → DiskOf D → Gate (State D) → Token → (View → List Entry → Type 0) → Type 0
-Upon g t p P = (h : List Entry) × Saw (opening_of g.state t.first) p.seen h × P (view g t p) h
+abbrev pub Upon : {D : Type 0} → DiskOf D → TurnstileView (State D) → Token → (View → List Entry → Type 0) → Type 0
+Upon g = UponBy (opening_of g.state) Saw
 
 -- after each history that was seen this holds
-abbrev pub After : {D : Type 0} → DiskOf D → Gate (State D) → Token → (View → List Entry → Type 0) → Type 0
-After g t p P = (h : List Entry) → Saw (opening_of g.state t.first) p.seen h → P (view g t p) h
+abbrev pub After : {D : Type 0} → DiskOf D → TurnstileView (State D) → Token → (View → List Entry → Type 0) → Type 0
+After g = AfterBy (opening_of g.state) Saw
 
 -- the place hasn't got the Provisioner out
 abbrev pub AtRest : View → List Entry → Type 0
@@ -156,7 +157,7 @@ HoldsOut g asked s t held = (o : Opening) (own : ℕ) (h : List Entry) → Stand
 abbrev pub IsHeld : {D : Type 0} → DiskOf D → Op → Provisioner D → Type 0
 IsHeld g asked p = (o : Opening) × (own : ℕ) × (h : List Entry) × HasHeld g.told g.state o own asked h p
 
-abbrev pub Rereads : {D : Type 0} → DiskOf D → Op → Provisioner D → Provisioner D → Reread → Type 0
+abbrev pub Rereads : {D : Type 0} → DiskOf D → Op → Provisioner D → Provisioner D → Result Reread Stopped → Type 0
 Rereads g asked p q answer = (o : Opening) (own : ℕ) (h : List Entry) → HasHeld g.told g.state o own asked h p → RereadIs g.told g.state o own asked h q answer
 
 -- it comes home by a fault of its journal

@@ -14,6 +14,7 @@ use crate::recovery::stage_on;
 use crate::start::{begun, house, read_journal};
 use crate::state::State;
 use dxc_disk::Disk;
+use fabric_core::MOST_SWITCHES;
 use fabric_words::{Fabric, MoverSeat};
 use paull_matrix::Matrix;
 use roll_plan::Work;
@@ -33,12 +34,9 @@ pub enum Adopted<D: Disk> {
     Open(OpenFault<D>),
 }
 
-// The most switches that a fabric makes.
-const MOST_SWITCHES: u64 = 1 << 48;
-
 // How many switches will have been made with the rest of the last record's work, which led to the matrix. None: the registers are at no stage
 // of it, or there are no numbers for so many.
-fn switches_behind(
+fn switches_after(
     matrix: &mut Matrix,
     mover: &mut MoverSeat,
     fabric: &Fabric,
@@ -105,7 +103,7 @@ impl Core {
             Ok(read) => read,
             Err(fault) => return Adopted::Open(fault),
         };
-        let found = switches_behind(&mut read.p.matrix, &mut read.p.mover, fabric, &read.last);
+        let found = switches_after(&mut read.p.matrix, &mut read.p.mover, fabric, &read.last);
         let Some(switches) = found else {
             let (disk, mover) = release(read.p);
             return Adopted::Strange(disk, mover);

@@ -6,7 +6,7 @@ ghost use Rattle.dxc_disk.specs.Disks.{IsSound, LeavesOnly, Spends};
 ghost use Rattle.dxc_num.specs.Dimensions.{IsInLimits};
 ghost use Rattle.dxc_model.specs.declared.op.Op.{Op};
 ghost use Rattle.dxc_model.specs.Tables.{IsOfShape};
-ghost use Rattle.journal_core.specs.declared.spare.Spare.TheVariants.{Drafted, Open};
+ghost use Rattle.journal_core.specs.declared.spare.SpareArea.TheVariants.{Drafted, Open};
 ghost use Rattle.journal_core.specs.Books.{IsReady, IsWhole, draft_of, is_drafted, listed, rows};
 ghost use Rattle.journal_core.specs.Turns.{Keeps, book_on};
 ghost use Rattle.xc_journal.specs.Entries.{FitsConn};

@@ -1,12 +1,13 @@
 //! How a controller starts.
-ghost use Rattle.std.specs.Prelude.{◌≡◌, ◌≤◌, ℕ, length, replicate, IfErr, IfOk};
-ghost use Rattle.dxc_causes.specs.Causes.{Rose};
+ghost use Rattle.std.specs.Prelude.{◌≡◌, ℕ, length, replicate, IfErr, IfOk, Ok, Err};
+ghost use Rattle.dxc_causes.specs.Stops.{RoseOnlyFor};
 ghost use Rattle.dxc_disk.specs.Disks.{IsSound, Spends};
 ghost use Rattle.fabric_core.specs.State.{new_mover};
 ghost use Rattle.paull_matrix.specs.Colourings.{IsProperColouring};
 ghost use Rattle.roll_plan.specs.Works.{switches_in};
 ghost use Rattle.roll_engine.specs.Stages.{IsAtRestOn};
 ghost use Rattle.roll_engine.specs.Cold.{joins_of};
+ghost use Rattle.dxc_outside.specs.Stops.{the_stop};
 ghost use Rattle.dxc_outside.specs.declared.gate.GatePlace.TheVariants.{Register};
 ghost use Rattle.xc_core.specs.Askings.{OpenAsked};
 ghost use Rattle.xc_core.specs.Openings.{CountsFor, Fails, IsDiskErr, IsStopErr, KeepsPassing, Left, LeavesOpened, Opened};
@@ -16,7 +17,7 @@ use crate::provisioner::Provisioner;
 use crate::start::{begun, house, read_journal, unhoused};
 use crate::state::State;
 use dxc_disk::Disk;
-use dxc_outside::{Gate, Pass1};
+use dxc_outside::{Gate, Stopped};
 use fabric_words::{Fabric, MoverSeat};
 use roll_engine::cold::advance_cold;
 use roll_engine::{Advance, Rolling};
@@ -50,9 +51,7 @@ impl Core {
         ensures cause { Left D.state result (CountsFor (IsDiskErr result) (D.state disk)) }
         ensures room { Left D.state result (Spends 131_081 (D.state disk)) }
         ensures sound { IsSound 131_081 (D.state disk) → IsDiskErr result → ⊥ }
-        ensures stopped { IsStopErr result → Rose (G.stops gate.old) (G.stops gate.new) }
-        ensures unstopped { (IsStopErr result → ⊥) → G.stops gate.new ≡ G.stops gate.old }
-        ensures later { G.stops gate.old ≤ G.stops gate.new }
+        ensures stopped { RoseOnlyFor (G.stops gate.old) (G.stops gate.new) (IsStopErr result) }
         ensures asked { OpenAsked D.state (G.asked gate.old gate.new) result }
     {
         let read = match read_journal(alloc, shelf, disk, mover) {
@@ -64,30 +63,32 @@ impl Core {
             Err(disk) => return Err(OpenFault::NoMemory(disk)),
         };
         match join_all(&mut housed.driver.p, fabric, gate) {
-            Pass1::Stop => return Err(OpenFault::Stopped(unhoused(housed))),
-            Pass1::Go => {}
+            Ok(()) => {}
+            Err(Stopped) => return Err(OpenFault::Stopped(unhoused(housed))),
         }
         Ok(begun(housed))
     }
 }
 
-// Joins all legs of the matrix on a new fabric, and notes how many switches that took. Stop: the gate stopped.
-fn join_all<D: Disk, G: Gate>(p: &mut Provisioner<D>, fabric: &Fabric, gate: &mut G) -> Pass1
+// Joins all legs of the matrix on a new fabric, and notes how many switches that took.
+fn join_all<D: Disk, G: Gate>(
+    p: &mut Provisioner<D>,
+    fabric: &Fabric,
+    gate: &mut G,
+) -> Result<(), Stopped>
     requires own { p.old.mover.fabric ≡ fabric.now }
     requires new { p.old.mover.mover ≡ new_mover fabric.now.size }
     requires shape { p.old.matrix.shape ≡ fabric.now.size.shape }
     requires proper { IsProperColouring p.old.matrix }
     ensures others { p.new ≡ record p.old { mover = p.new.mover; spent = p.new.spent } }
-    ensures joined { result ≡ Pass1.Go → (p.new.mover.fabric ≡ fabric.now)
+    ensures joined { result ≡ Ok tt → (p.new.mover.fabric ≡ fabric.now)
         × IsAtRestOn fabric.now.size p.old.matrix p.new.mover.mover
         × (length p.new.mover.mover.log ≡ switches_in (joins_of p.old.matrix)) }
     ensures spent { p.new.spent ≡ length p.new.mover.mover.log }
-    ensures stopped { result ≡ Pass1.Stop → Rose (G.stops gate.old) (G.stops gate.new) }
-    ensures unstopped { result ≡ Pass1.Go → G.stops gate.new ≡ G.stops gate.old }
-    ensures later { G.stops gate.old ≤ G.stops gate.new }
-    ensures asked { result ≡ Pass1.Go
+    ensures stopped { RoseOnlyFor (G.stops gate.old) (G.stops gate.new) (result ≡ Err the_stop) }
+    ensures asked { result ≡ Ok tt
         → G.asked gate.old gate.new (replicate (length (joins_of p.old.matrix)) Register) }
-    ensures asked_till { result ≡ Pass1.Stop
+    ensures asked_till { result ≡ Err the_stop
         → (n : ℕ) × G.asked gate.old gate.new (replicate n Register) }
 {
     // Its clause tells that the fabric's size is within the limits.
@@ -95,8 +96,9 @@ fn join_all<D: Disk, G: Gate>(p: &mut Provisioner<D>, fabric: &Fabric, gate: &mu
     let mut rolling = Rolling::cold();
     let advance = advance_cold(&p.matrix, fabric, &mut p.mover, &mut rolling, gate);
     p.spent = p.mover.switches();
-    match advance {
-        Advance::Done => Pass1::Go,
-        Advance::InFrame(_) | Advance::Stopped => Pass1::Stop,
+    // Joins look at no frame.
+    match advance? {
+        Advance::Done => Ok(()),
+        Advance::InFrame(_) => unreachable!(),
     }
 }

@@ -1,10 +1,12 @@
 //! How a controller goes on where a stop came in the middle of a work.
-ghost use Rattle.std.specs.Prelude.{◌≡◌, ◌≢◌, ◌≤◌, ◌<◌, ◌^◌, ◌+◌, ◌↔◌, IsTrue, ℕ, [], ◌∷◌, List, length, IfSome, IsErrOf, Option, Some, Err};
-ghost use Rattle.dxc_causes.specs.Causes.{HasCause, Rose};
+ghost use Rattle.std.specs.Prelude.{◌≡◌, ◌≢◌, ◌≤◌, ◌<◌, ◌^◌, ◌+◌, ◌↔◌, IsTrue, ℕ, [], ◌∷◌, List, length, IfOk, IfSome, IsErrOf, Option, Some, Ok, Err};
+ghost use Rattle.dxc_causes.specs.Causes.{HasCause};
+ghost use Rattle.dxc_causes.specs.Stops.{RoseOnlyFor};
 ghost use Rattle.dxc_disk.specs.Disks.{IsSound, LeavesOnly, Spends};
 ghost use Rattle.dxc_model.specs.declared.op.Change.{Change};
 ghost use Rattle.dxc_model.specs.Steps.{with_change};
 ghost use Rattle.dxc_model.specs.Verdicts.{MayTake};
+ghost use Rattle.dxc_outside.specs.Stops.{the_stop};
 ghost use Rattle.dxc_outside.specs.declared.gate.GatePlace.TheVariants.{Journal};
 ghost use Rattle.paull_matrix.specs.Colourings.{Colouring};
 ghost use Rattle.paull_chain.specs.Works.{OpsMade};
@@ -16,17 +18,17 @@ ghost use Rattle.xc_core.specs.Provisioners.{ground_of};
 ghost use Rattle.xc_core.specs.Restarts.{IsHalted, number_with, writes_left};
 ghost use Rattle.journal_core.specs.Turns.{Keeps};
 ghost use Rattle.xc_core.specs.Journals.{IsOldOrDoubted};
-ghost use Rattle.xc_core.specs.Recoveries.{ReadIs, Reads};
+ghost use Rattle.xc_core.specs.Recoveries.{ReadIs, Reads, RecoveredIs};
 ghost use Rattle.xc_core.specs.Endings.{IfCold, IfWarm, reports_with, with_switches};
 ghost use Rattle.xc_core.specs.Gathered.{EndsFor, RecoveredAs, RecoversFor, RejoinsFor, RestAs, ResumedAs, ResumesFor, half_made, last_work, switches_due, taken_up};
 
 use crate::provisioner::Provisioner;
-use crate::second::{Given, compare};
+use crate::replayed::{Given, compare};
 use crate::state::State;
 use dbchg_reports::Reports;
 use dxc_disk::{Disk, DiskFault};
 use dxc_model::{Change, Table};
-use dxc_outside::{Gate, GatePlace, Pass1};
+use dxc_outside::{Gate, GatePlace, Stopped};
 use fabric_words::{Fabric, MoverSeat, Phase};
 use paull_chain::{apply_work, undo_work};
 use paull_matrix::Matrix;
@@ -47,8 +49,6 @@ pub enum Recovered {
     Astray(u32),
     /// The disk failed.
     Fault,
-    /// The gate stopped before the journal was called.
-    Stopped,
 }
 
 // The rest of a work of which so many writes are made, if so many switches will then have been made; else a cold rolling, where the mover
@@ -108,12 +108,12 @@ fn resume(
     }
 }
 
-// Reads the journal anew, and replays it into the second matrix and table.
+// Reads the journal anew, and replays it into the matrix and the table beside the state's.
 fn read<D: Disk>(p: &mut Provisioner<D>) -> Result<Work, ReplayFault>
     requires halted { (b : Past) × IsHalted D.told D.state b p.old }
-    ensures others { p.new ≡ record p.old { journal = p.new.journal; second = p.new.second } }
+    ensures others { p.new ≡ record p.old { journal = p.new.journal; replayed = p.new.replayed } }
     ensures ground { ground_of p.new ≡ ground_of p.old }
-    ensures copy { p.new.second.expected ≡ p.old.second.expected }
+    ensures copy { p.new.replayed.expected ≡ p.old.replayed.expected }
     ensures halted { (b : Past) → IsHalted D.told D.state b p.old
         → IsHalted D.told D.state b p.new }
     ensures reads { (b : Past) → IsHalted D.told D.state b p.old
@@ -133,36 +133,40 @@ fn read<D: Disk>(p: &mut Provisioner<D>) -> Result<Work, ReplayFault>
         Ok(()) => {}
         Err(DiskFault) => return Err(ReplayFault::Disk),
     }
-    replay(&mut p.journal, &mut p.second.matrix, &mut p.second.table)
+    replay(
+        &mut p.journal,
+        &mut p.replayed.matrix,
+        &mut p.replayed.table,
+    )
 }
 
 // How the registers can go on with what was read, beside the copy of the state's table.
 fn go_on<D: Disk>(p: &mut Provisioner<D>, fabric: &Fabric, work: Work) -> Recovered
     requires own { p.old.mover.fabric ≡ fabric.now }
     requires reads { (b : Past) × Reads D.told D.state b p.old work.ops.items
-        × (p.old.second.expected ≡ b.fold.table) }
-    ensures others { p.new ≡ record p.old { second = p.new.second } }
+        × (p.old.replayed.expected ≡ b.fold.table) }
+    ensures others { p.new ≡ record p.old { replayed = p.new.replayed } }
     ensures halted { (b : Past) → Reads D.told D.state b p.old work.ops.items
-        → p.old.second.expected ≡ b.fold.table → IsHalted D.told D.state b p.new }
+        → p.old.replayed.expected ≡ b.fold.table → IsHalted D.told D.state b p.new }
     ensures recovered { (b : Past) → Reads D.told D.state b p.old work.ops.items
-        → p.old.second.expected ≡ b.fold.table → RecoveredAs D.Disk b p.old p.new result }
+        → p.old.replayed.expected ≡ b.fold.table → RecoveredIs D.told D.state b p.new result }
     ensures resumes { (b : Past) → Reads D.told D.state b p.old work.ops.items
-        → p.old.second.expected ≡ b.fold.table → IfWarm result
+        → p.old.replayed.expected ≡ b.fold.table → IfWarm result
         (λ r. (lacking : Option Change) × (g : Past)
         × ResumesFor D.Disk (taken_up b lacking g) p.new r) }
     ensures rejoins { (b : Past) → Reads D.told D.state b p.old work.ops.items
-        → p.old.second.expected ≡ b.fold.table → IfCold result
+        → p.old.replayed.expected ≡ b.fold.table → IfCold result
         (λ r. (lacking : Option Change) × (g : Past)
         × RejoinsFor D.Disk (taken_up b lacking g) p.new r) }
     ensures astray { D.told → (i : ℕ) → result ≢ Recovered.Astray i }
     ensures warm { D.told → (r : RollingAt) → result ≢ Recovered.Cold r }
-    ensures answered { (result ≢ Recovered.Fault) × (result ≢ Recovered.Stopped) }
+    ensures answered { result ≢ Recovered.Fault }
 {
-    match compare(&mut p.second, &mut p.matrix, p.doubt, p.spent) {
+    match compare(&mut p.replayed, &mut p.matrix, p.doubt, p.spent) {
         None => Recovered::Astray(p.journal.count()),
         Some(Given { lacking, switches }) => {
-            p.second.lacking = lacking;
-            resume(&mut p.second.matrix, &mut p.mover, fabric, work, switches)
+            p.replayed.lacking = lacking;
+            resume(&mut p.replayed.matrix, &mut p.mover, fabric, work, switches)
         }
     }
 }
@@ -170,49 +174,48 @@ fn go_on<D: Disk>(p: &mut Provisioner<D>, fabric: &Fabric, work: Work) -> Recove
 /// Reads the journal anew, and finds how the registers can go on, for a Provisioner that is halted and has a copy of the
 /// state's table.
 ///
-/// It writes no register. It takes at most 131,079 of the disk's room.
-pub fn recover<D: Disk, G: Gate>(p: &mut Provisioner<D>, fabric: &Fabric, gate: &mut G) -> Recovered
+/// The gate is asked first; where it stops, the journal isn't called. No register is written. It takes at most 131,079 of the disk's room.
+pub fn recover<D: Disk, G: Gate>(
+    p: &mut Provisioner<D>,
+    fabric: &Fabric,
+    gate: &mut G,
+) -> Result<Recovered, Stopped>
     requires own { p.old.mover.fabric ≡ fabric.now }
     requires halted { (b : Past) × IsHalted D.told D.state b p.old
-        × (p.old.second.expected ≡ b.fold.table) }
+        × (p.old.replayed.expected ≡ b.fold.table) }
     ensures ground { ground_of p.new ≡ ground_of p.old }
-    ensures others { p.new ≡ record p.old { journal = p.new.journal; second = p.new.second } }
+    ensures others { p.new ≡ record p.old { journal = p.new.journal; replayed = p.new.replayed } }
     ensures halted { (b : Past) → IsHalted D.told D.state b p.old
-        → p.old.second.expected ≡ b.fold.table → IsHalted D.told D.state b p.new }
+        → p.old.replayed.expected ≡ b.fold.table → IsHalted D.told D.state b p.new }
     ensures recovered { (b : Past) → IsHalted D.told D.state b p.old
-        → p.old.second.expected ≡ b.fold.table → RecoveredAs D.Disk b p.old p.new result }
+        → p.old.replayed.expected ≡ b.fold.table → RecoveredAs D.Disk b p.old p.new result }
     ensures resumes { (b : Past) → IsHalted D.told D.state b p.old
-        → p.old.second.expected ≡ b.fold.table → IfWarm result
+        → p.old.replayed.expected ≡ b.fold.table → IfOk result (λ found. IfWarm found
         (λ r. (lacking : Option Change) × (g : Past)
-        × ResumesFor D.Disk (taken_up b lacking g) p.new r) }
+        × ResumesFor D.Disk (taken_up b lacking g) p.new r)) }
     ensures rejoins { (b : Past) → IsHalted D.told D.state b p.old
-        → p.old.second.expected ≡ b.fold.table → IfCold result
+        → p.old.replayed.expected ≡ b.fold.table → IfOk result (λ found. IfCold found
         (λ r. (lacking : Option Change) × (g : Past)
-        × RejoinsFor D.Disk (taken_up b lacking g) p.new r) }
+        × RejoinsFor D.Disk (taken_up b lacking g) p.new r)) }
     // A disk that tells its content is never astray, and the registers are at a stage of what it tells.
-    ensures astray { D.told → (i : ℕ) → result ≢ Recovered.Astray i }
-    ensures warm { D.told → (r : RollingAt) → result ≢ Recovered.Cold r }
-    ensures stopped { result ≡ Recovered.Stopped → Rose (G.stops gate.old) (G.stops gate.new) }
-    ensures unstopped { result ≢ Recovered.Stopped → G.stops gate.new ≡ G.stops gate.old }
-    ensures later { G.stops gate.old ≤ G.stops gate.new }
+    ensures astray { D.told → (i : ℕ) → result ≢ Ok (Recovered.Astray i) }
+    ensures warm { D.told → (r : RollingAt) → result ≢ Ok (Recovered.Cold r) }
+    ensures stopped { RoseOnlyFor (G.stops gate.old) (G.stops gate.new) (result ≡ Err the_stop) }
     ensures asked { G.asked gate.old gate.new (Journal ∷ []) }
     ensures any_moment { D.told → (b : Past) → IsHalted D.told D.state b p.old → LeavesOnly
         (D.state p.old.journal.0) (D.state p.new.journal.0) (IsOldOrDoubted b p.old.doubt) }
     ensures acknowledged { D.told
         → Keeps (D.state p.old.journal.0) (D.state p.new.journal.0) p.old.journal.1 }
     ensures fault { HasCause (D.state p.old.journal.0).faults (D.state p.new.journal.0).faults
-        (result ≡ Recovered.Fault) }
+        (result ≡ Ok Recovered.Fault) }
     ensures room { Spends 131_079 (D.state p.old.journal.0) (D.state p.new.journal.0) }
-    ensures sound { IsSound 131_079 (D.state p.old.journal.0) → result ≢ Recovered.Fault }
+    ensures sound { IsSound 131_079 (D.state p.old.journal.0) → result ≢ Ok Recovered.Fault }
 {
-    match gate.pass(GatePlace::Journal) {
-        Pass1::Stop => return Recovered::Stopped,
-        Pass1::Go => {}
-    }
+    gate.pass(GatePlace::Journal)?;
     match read(p) {
-        Ok(work) => go_on(p, fabric, work),
-        Err(ReplayFault::BadRecord(i)) => Recovered::Astray(i),
-        Err(ReplayFault::Disk) => Recovered::Fault,
+        Ok(work) => Ok(go_on(p, fabric, work)),
+        Err(ReplayFault::BadRecord(i)) => Ok(Recovered::Astray(i)),
+        Err(ReplayFault::Disk) => Ok(Recovered::Fault),
     }
 }
 
@@ -245,14 +248,14 @@ pub fn end_recovery<D: Disk>(
         state.new.table p.new result }
 {
     let _ = rolling;
-    mem::swap(&mut p.matrix, &mut p.second.matrix);
-    take_up(&mut state.table, p.second.lacking);
-    report(&mut state.reports, p.second.lacking);
-    p.changes = changes_with(p.changes, p.second.lacking);
+    mem::swap(&mut p.matrix, &mut p.replayed.matrix);
+    take_up(&mut state.table, p.replayed.lacking);
+    report(&mut state.reports, p.replayed.lacking);
+    p.changes = changes_with(p.changes, p.replayed.lacking);
     p.spent = p.mover.switches();
     p.doubt = None;
     p.halted = false;
-    p.second.lacking
+    p.replayed.lacking
 }
 
 // Makes a change in the table, if there is one.

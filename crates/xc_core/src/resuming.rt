@@ -1,12 +1,14 @@
 //! What a restart does with the state within its turns, and with the Provisioner between them.
-ghost use Rattle.std.specs.Prelude.{◌≡◌, ◌≢◌, ◌≤◌, ◌⊎◌, ◌++◌, ◌∷◌, ◌↔◌, List, [], ℕ, true, false, IsTrue, IsErr, Option, OnErr, OnOk, Some};
-ghost use Rattle.dxc_causes.specs.Causes.{HasCause, Rose};
+ghost use Rattle.std.specs.Prelude.{◌≡◌, ◌⊎◌, ◌++◌, ◌∷◌, ◌↔◌, List, [], ℕ, true, false, IsTrue, IsErr, Option, OnErr, OnOk, Some, Err};
+ghost use Rattle.dxc_causes.specs.Causes.{HasCause};
+ghost use Rattle.dxc_causes.specs.Stops.{RoseOnlyFor};
 ghost use Rattle.dxc_disk.specs.Disks.{Spends};
 ghost use Rattle.dxc_model.specs.declared.entry.Entry.{Entry};
 ghost use Rattle.dxc_model.specs.declared.entry.Outcome.TheVariants.{Restarted};
 ghost use Rattle.dxc_model.specs.declared.op.Op.{Op};
 ghost use Rattle.dxc_model.specs.declared.op.Op.TheVariants.{Restart};
 ghost use Rattle.dxc_model.specs.Steps.{IsDriven};
+ghost use Rattle.dxc_outside.specs.Stops.{the_stop};
 ghost use Rattle.roll_engine.specs.Rollings.{rest_of};
 ghost use Rattle.xc_core.specs.Reckonings.{Past};
 ghost use Rattle.xc_core.specs.Provisioners.{HasNoDoubt, IsHome, StillDoubts, ground_of};
@@ -24,7 +26,7 @@ use crate::restarts::Held;
 use crate::state::{Errand, State};
 use dxc_disk::{Disk, DiskFault};
 use dxc_model::{Cause, Change, Op, Outcome};
-use dxc_outside::Gate;
+use dxc_outside::{Gate, Stopped};
 use fabric_words::Fabric;
 use roll_engine::Rolling;
 
@@ -36,7 +38,7 @@ fn make_halted<D: Disk>(p: &mut Provisioner<D>) -> Result<(), DiskFault>
         ⊎ IsHalted D.told D.state b p.old → IsHalted D.told D.state b p.new) }
     ensures unsettled { OnErr result ((p.old.halted ≡ false)
         × ((b : Past) → IsHome D.told D.state b p.old → IsHome D.told D.state b p.new)) }
-    ensures second { p.new.second ≡ p.old.second }
+    ensures replayed { p.new.replayed ≡ p.old.replayed }
     ensures mover { p.new.mover ≡ p.old.mover }
     ensures doubt { StillDoubts p.old p.new }
     ensures settled { OnOk result (p.old.halted ≡ false → HasNoDoubt p.new) }
@@ -75,7 +77,7 @@ pub fn hold<D: Disk + Drop>(state: &mut State<D>, asked: &Op) -> Held<D>
         state.bring_home(driver);
         return Held::Waits;
     }
-    held.p.second.expected.copy_from(&state.table);
+    held.p.replayed.expected.copy_from(&state.table);
     Held::Held(driver)
 }
 
@@ -96,38 +98,35 @@ pub enum Reread {
     Warm(Rolling),
     /// The disk failed, or the journal reads otherwise than it was written.
     Failed(Cause),
-    /// The gate stopped. The Provisioner is halted.
-    Stopped,
 }
 
 /// Settles a Provisioner that was taken out for a restart, and halts it where it isn't halted; then reads its journal anew, and finds how its
-/// registers go on. This is done outside of any turn. It takes at most 131,082 of the disk's room.
+/// registers go on. This is done outside of any turn. Where the gate stopped, the Provisioner is halted. It takes at most 131,082 of the
+/// disk's room.
 pub fn read_anew<D: Disk, G: Gate>(
     p: &mut Provisioner<D>,
     fabric: &Fabric,
     asked: &Op,
     gate: &mut G,
-) -> Reread
+) -> Result<Reread, Stopped>
     requires asked { IsDriven asked.now }
     requires own { p.old.mover.fabric ≡ fabric.now }
     requires held { IsHeld D.Disk asked.now p.old }
     ensures ground { ground_of p.new ≡ ground_of p.old }
     ensures reread { Rereads D.Disk asked.now p.old p.new result }
-    ensures stopped { result ≡ Reread.Stopped → Rose (G.stops gate.old) (G.stops gate.new) }
-    ensures unstopped { result ≢ Reread.Stopped → G.stops gate.new ≡ G.stops gate.old }
-    ensures later { G.stops gate.old ≤ G.stops gate.new }
+    ensures stopped { RoseOnlyFor (G.stops gate.old) (G.stops gate.new) (result ≡ Err the_stop) }
     ensures asked { RereadAsked (G.asked gate.old gate.new) result }
 {
     let _ = asked;
     match make_halted(p) {
         Ok(()) => {}
-        Err(DiskFault) => return Reread::Failed(Cause::DiskFault),
+        Err(DiskFault) => return Ok(Reread::Failed(Cause::DiskFault)),
     }
-    match recover(p, fabric, gate) {
-        Recovered::Warm(rolling) => Reread::Warm(rolling),
-        Recovered::Cold(_) | Recovered::Astray(_) => Reread::Failed(Cause::JournalAstray),
-        Recovered::Fault => Reread::Failed(Cause::DiskFault),
-        Recovered::Stopped => Reread::Stopped,
+    let found = recover(p, fabric, gate)?;
+    match found {
+        Recovered::Warm(rolling) => Ok(Reread::Warm(rolling)),
+        Recovered::Cold(_) | Recovered::Astray(_) => Ok(Reread::Failed(Cause::JournalAstray)),
+        Recovered::Fault => Ok(Reread::Failed(Cause::DiskFault)),
     }
 }
 

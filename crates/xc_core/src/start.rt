@@ -8,7 +8,7 @@ ghost use Rattle.xc_core.specs.declared.state.Home.TheVariants.{In};
 use crate::fault::OpenFault;
 use crate::origin::Origin;
 use crate::provisioner::{Driver, Provisioner, release};
-use crate::second::Second;
+use crate::replayed::Replayed;
 use crate::state::{Home, State};
 use dbchg_reports::Reports;
 use dxc_causes::NoMemory;
@@ -39,7 +39,7 @@ pub(crate) struct Blank {
     pub table: Table,
     pub matrix: Matrix,
     pub reports: Reports,
-    pub second: Second,
+    pub replayed: Replayed,
 }
 
 // NoMemory is the only error.
@@ -50,12 +50,12 @@ fn memory_for(alloc: Global, shelf: &Shelf) -> Result<Blank, NoMemory>
     let table = Table::new(alloc, shape, shelf.equipped())?;
     let matrix = Matrix::new(alloc, shape)?;
     let reports = Reports::new(alloc)?;
-    let second = Second::new(alloc, shape, shelf.equipped())?;
+    let replayed = Replayed::new(alloc, shape, shelf.equipped())?;
     Ok(Blank {
         table,
         matrix,
         reports,
-        second,
+        replayed,
     })
 }
 
@@ -79,7 +79,7 @@ fn start_of<D: Disk>(seated: Seated, journal: Journal<D>, last: Work) -> Start<D
         changes = 0;
         halted = false;
         spent = 0;
-        second = seated.blank.second;
+        replayed = seated.blank.replayed;
       };
       last = last;
     } }
@@ -89,7 +89,7 @@ fn start_of<D: Disk>(seated: Seated, journal: Journal<D>, last: Work) -> Start<D
         table,
         matrix,
         reports,
-        second,
+        replayed,
     } = blank;
     let p = Provisioner {
         matrix,
@@ -99,7 +99,7 @@ fn start_of<D: Disk>(seated: Seated, journal: Journal<D>, last: Work) -> Start<D
         changes: 0,
         halted: false,
         spent: 0,
-        second,
+        replayed,
     };
     Start {
         table,

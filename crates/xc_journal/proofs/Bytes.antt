@@ -68,7 +68,7 @@ spelling_size change l is =
     let d = label_size (label_of change) (label_few (label_of change) is) in
     omega arith
 
--- the label's bytes, put behind what is in front of them
+-- the label's bytes, put after what is in front of them
 pub filled : (f l ys zs : List ℕ) → length f ≡ 15 → length l ≡ 24 → length ys ≡ 24 → put_mid 15 24 (f ++ (ys ++ zs)) l ≡ (f ++ l) ++ zs
 filled f l ys zs a b d = rw (take_at f (ys ++ zs) 15 a, drop_at f (ys ++ zs) 15 a, drop_at ys zs 24 d, append_assoc f l zs) refl
 

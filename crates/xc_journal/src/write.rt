@@ -71,7 +71,7 @@ fn of_choice(choices: &[Choice]) -> [u8; 3]
     }
 }
 
-// The choices behind the first.
+// The choices after the first.
 fn behind(choices: &[Choice]) -> &[Choice]
     ensures { result.now ≡ drop 1 choices.now }
 {

@@ -1,5 +1,5 @@
 -- The rows of a checkpoint come to its table and colouring.
-use Rattle.std.proofs.Common.{zero, suc, ◌≡◌, ◌≢◌, ◌⊎◌, ◌↔◌, ℕ, ◌+◌, ◌<◌, ◌≤◌, Bool, true, false, cond, not, ◌||◌, Option, Some, None, Ok, is_some, List, [], ◌∷◌, ◌++◌, length, map, get_or, sym, refl, ap, ap₂, ◌∙◌, inl, inr, subst, ⊎_elim, arith, append_assoc, append-nil}
+use Rattle.std.proofs.Common.{zero, suc, ◌≡◌, ◌≢◌, ℕ, ◌+◌, ◌<◌, ◌≤◌, Bool, true, false, cond, not, ◌||◌, Option, Some, None, is_some, List, [], ◌∷◌, ◌++◌, length, map, sym, refl, ap, ap₂, ◌∙◌, inl, inr, subst, ⊎_elim, arith, append_assoc, append-nil}
 use Rattle.std.specs.Prelude.{drop, filter, find, nat_lt, option_map, slice_get, IfSome, IsTrue}
 use Rattle.std.proofs.lemmas.Option.{slice_get-map}
 use Rattle.std.specs.List.{list_any, AllByRecursion}
@@ -14,12 +14,10 @@ use Rattle.dxc_model.specs.declared.conn.Cct.{Cct}
 use Rattle.dxc_model.specs.declared.conn.Cct.TheVariants.{OneWay, TwoWay}
 use Rattle.dxc_model.specs.declared.conn.Conn.{Conn}
 use Rattle.dxc_model.specs.declared.op.Op.TheVariants as asks
-use Rattle.dxc_model.specs.declared.op.Change.{Change}
 use Rattle.dxc_model.specs.declared.op.Change.TheVariants.{Enter, TakeOut}
-use Rattle.dxc_model.specs.Denials.{is_blocked, is_unequipped}
+use Rattle.dxc_model.specs.Denials.{is_blocked}
 use Rattle.dxc_model.specs.Equipment.{empty_table, modules_in}
-use Rattle.dxc_model.specs.Operations.{ArePorts}
-use Rattle.dxc_model.specs.Sides.{uses_side, user_of}
+use Rattle.dxc_model.specs.Sides.{uses_side}
 use Rattle.dxc_model.specs.Tables.{Board, IsProper, IsOfShape, IsOrdered, Side, in_use, is_before, is_equipped, legs, legs_between, legs_of, needs_side}
 use Rattle.dxc_model.specs.Tables.Side.{input_of, output_of}
 use Rattle.dxc_model.specs.Verdicts.{MayTake, effect, judged, put}
@@ -33,7 +31,6 @@ use Rattle.dxc_model.proofs.Places.{false_of}
 use Rattle.dxc_model.proofs.Users.{in_use_found, none_found}
 use Rattle.dxc_model.proofs.Verdicts.{IsClear, none_of}
 use Rattle.journal_core.specs.declared.version.Version.TheVariants.{Two}
-use Rattle.roll_plan.specs.declared.op.Choice.{Choice}
 use Rattle.roll_plan.specs.declared.op.Chain.TheVariants.{Direct}
 use Rattle.roll_plan.specs.declared.op.LegOp.{LegOp}
 use Rattle.roll_plan.specs.declared.op.LegOp.TheVariants as op
@@ -48,8 +45,8 @@ use Rattle.mid_service.proofs.Ways.{joins_direct as joins_direct_out}
 use Rattle.xc_journal.specs.Entries.{FitsConn}
 use Rattle.xc_recovery.specs.declared.leg_task.LegTask.TheVariants.{Join}
 use Rattle.xc_recovery.specs.LegTasks.{joins}
-use Rattle.xc_recovery.specs.ChangeWorks.{AreReady, ChangesBy, IsReady, JoinsAs, WorksBy}
-use Rattle.xc_recovery.specs.Folds.{Folded, FoldsTo, Makes, none_folded, with_change}
+use Rattle.xc_recovery.specs.ChangeWorks.{AreReady, IsReady, JoinsAs, WorksBy}
+use Rattle.xc_recovery.specs.Folds.{FoldsTo, Makes, none_folded}
 use Rattle.xc_recovery.specs.Laws.{CheckpointsStand}
 use Rattle.xc_recovery.specs.Placings.{IsPlaced, idle}
 use Rattle.xc_journal.specs.Spelling.{spelling}
@@ -58,7 +55,7 @@ use Rattle.xc_recovery.proofs.Folding.{none_held, none_placed}
 use Rattle.xc_recovery.proofs.HeldLegs.{does_proper}
 use Rattle.xc_recovery.proofs.Placing.{placed_after, tasks_ready}
 use Rattle.xc_recovery.proofs.Replaying.{folded}
-use Rattle.xc_recovery.proofs.TableLegs.{among_any, among_left, among_right, among_none, leg_uses}
+use Rattle.xc_recovery.proofs.TableLegs.{among_any, among_left, among_right, leg_uses}
 
 -- Two colourings of one network with the same legs on the same middles.
 module _ (b c : Colouring) (shape : b.shape ≡ c.shape) (size : length b.routes ≡ length c.routes) (on : (l : Leg) (k : ℕ) → Holds b l k → Holds c l k) (stands : (l : Leg) → IsHeld c l → IsHeld b l) where
@@ -142,7 +139,7 @@ front_unused s (d ∷ ds) k ks a u = (false_of (uses_side s d) (λ b. true_false
 not_in_use : (t : Board) (s : Side) → AllByRecursion (λ d. uses_side s d ≡ false) t.conns → in_use t s ≡ false
 not_in_use t s all = in_use_found t s ∙ ap is_some (none_found (uses_side s) t.conns all)
 
--- so each comes behind those in front of it
+-- so each comes after those in front of it
 not_first : (k d : Conn) → nat_lt d.from.0 k.from.0 ≡ true → is_before k d ≡ false
 not_first k d lt = let low = lt_of d.from.0 k.from.0 lt in false_of (is_before k d) (λ b. ⊎_elim (λ (e : k.from.0 < d.from.0). omega arith) (λ (e : (k.from.0 ≡ d.from.0) × (k.to.0 < d.to.0)). let f = e.0 in omega arith) (earlier_of k d b))
 
@@ -154,7 +151,7 @@ among_legs : (l : Leg) (done : List Conn) (k : Conn) (ks : List Conn) → Among 
 among_legs l [] k ks m = among_left l (legs_of k) (legs ks) m
 among_legs l (d ∷ ds) k ks m = among_right l (legs_of d) (legs (ds ++ k ∷ ks)) (among_legs l ds k ks m)
 
--- The next connection of a table may be entered behind those in front of it.
+-- The next connection of a table may be entered after those in front of it.
 module _ (t : Board) (c : Colouring) (p : IsPlaced t c) (s : IsOfShape t) (fits : AllByRecursion FitsConn t.conns) (done : List Conn) (k : Conn) (ks : List Conn) (e : t.conns ≡ done ++ k ∷ ks) where
   apart : Apart (done ++ k ∷ ks)
   apart = subst Apart e (apart_of t.conns p.table.apart)
@@ -297,7 +294,7 @@ drop_more zero c (d ∷ cs) ds e = cc
 drop_more (suc i) c [] ds e = absurd (true_false cc)
 drop_more (suc i) c (d ∷ cs) ds e = drop_more i c cs ds e
 
--- the row of the first connection from a port on, where so many connections are behind
+-- the row of the first connection from a port on, where so many connections are after
 row_from : (c : Colouring) (cs : List Conn) (i p : ℕ) → drop i cs ≡ from_on p cs → option_map (row_of c) (first_from p cs) ≡ slice_get (map (row_of c) cs) i
 row_from c cs i p e = ap (option_map (row_of c)) (find_first (is_from_on p) cs ∙ (ap first_of (sym e) ∙ get_first i cs)) ∙ sym (slice_get-map (row_of c) cs i)
 

@@ -34,7 +34,7 @@ out_rows (Some m) = spelling (TakeOut m) [] ∷ []
 abbrev pub checkpoint : Board → Colouring → List (List ℕ)
 checkpoint t c = out_rows t.out ++ map (row_of c) t.conns
 
--- the connections that are left behind so many rows
+-- the connections that are left after so many rows
 abbrev pub left_behind : Option Middle → ℕ → List Conn → List Conn
 left_behind None i cs = drop i cs
 left_behind (Some m) zero cs = cs

@@ -62,7 +62,7 @@ fn choices_at(matrix: &Matrix, conn: &Conn) -> ArrayVec<Choice, 2>
     }
 }
 
-// The row of the first connection from the port on. The port then is the one behind it.
+// The row of the first connection from the port on. The port then is the one after it.
 fn conn_row(table: &Table, matrix: &Matrix, port: &mut u16) -> Option<[u8; 64]>
     requires { IsPlaced table.now matrix.now }
     ensures row { result ≡ option_map (row_of matrix.now) (first_from port.old table.now.conns) }

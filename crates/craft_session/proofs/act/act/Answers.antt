@@ -1,10 +1,15 @@
-use Rattle.std.proofs.Common.{ℕ, [], false, Some, refl, sym, ap, subst}
+use Rattle.std.specs.Prelude.{IfOk, is_err}
+use Rattle.std.proofs.Common.{◌≡◌, ℕ, Bool, true, [], false, Some, Result, Ok, refl, sym, ◌∙◌, ap, subst}
+use Rattle.dxc_causes.specs.Stops.{RoseOnlyFor}
+use Rattle.dxc_outside.specs.declared.stopped.Stopped.{Stopped}
+use Rattle.craft_session.specs.declared.ask.Acted.{Acted}
+use Rattle.craft_session.specs.declared.change.Changed.{Changed}
 use Rattle.craft_session.specs.declared.ask.Ask.TheVariants.{Allows}
-use Rattle.craft_session.specs.Acting.{Acts}
-use Rattle.craft_session.specs.Asks.{completed, user_after}
+use Rattle.craft_session.specs.Acting.{ActedIs, Acts}
+use Rattle.craft_session.specs.Asks.{IsAptActed, completed, user_after}
 use Rattle.craft_session.specs.Gated.{answers}
 use Rattle.craft_session.proofs.Acted.{acts_nothing, acts_listed, acts_marked, acts_shown, acts_cut, acts_done, acts_refused, acts_restarted, acts_stopped, acts_unrestarted}
-use Rattle.craft_session.proofs.Ends.{apart, changed_goes, some_there, stayed}
+use Rattle.craft_session.proofs.Ends.{by_stop, never, still}
 use Rattle.craft_session.proofs.Gated.{entered_at, entered_none}
 use Rattle.craft_session.proofs.act.act.Goals as goal
 
@@ -15,9 +20,7 @@ returns-in-Refused g c = record {
   of_shape = tt;
   user = sym (ap (user_after c.args.attending.now.user) c.in-Refused.is);
   room = refl;
-  acted = λ not. refl;
-  stopped = λ is. absurd (some_there _ _ refl is);
-  later = stayed _ _ refl;
+  stopped = still _ _ refl;
   entered = λ h saw. entered_none c.args.seat.now.opening c.args.seat.now.place (g.G.Gate.asked c.args.gate.now c.args.gate.now) h c.args.seat.now.seen (g.G.Gate.unasked c.args.gate.now) saw;
 }
 
@@ -28,9 +31,7 @@ returns-in-LogsIn g c = record {
   of_shape = tt;
   user = sym (ap (user_after c.args.attending.now.user) c.in-LogsIn.is);
   room = refl;
-  acted = λ not. refl;
-  stopped = λ is. absurd (some_there _ _ refl is);
-  later = stayed _ _ refl;
+  stopped = still _ _ refl;
   entered = λ h saw. entered_none c.args.seat.now.opening c.args.seat.now.place (g.G.Gate.asked c.args.gate.now c.args.gate.now) h c.args.seat.now.seen (g.G.Gate.unasked c.args.gate.now) saw;
 }
 
@@ -41,9 +42,7 @@ returns-in-LogsOut g c = record {
   of_shape = tt;
   user = sym (ap (user_after c.args.attending.now.user) c.in-LogsOut.is);
   room = refl;
-  acted = λ not. refl;
-  stopped = λ is. absurd (some_there _ _ refl is);
-  later = stayed _ _ refl;
+  stopped = still _ _ refl;
   entered = λ h saw. entered_none c.args.seat.now.opening c.args.seat.now.place (g.G.Gate.asked c.args.gate.now c.args.gate.now) h c.args.seat.now.seen (g.G.Gate.unasked c.args.gate.now) saw;
 }
 
@@ -54,9 +53,7 @@ returns-in-Completes g c = record {
   of_shape = tt;
   user = sym (ap (user_after c.args.attending.now.user) c.in-Completes.is);
   room = refl;
-  acted = λ not. refl;
-  stopped = λ is. absurd (some_there _ _ refl is);
-  later = stayed _ _ refl;
+  stopped = still _ _ refl;
   entered = λ h saw. entered_none c.args.seat.now.opening c.args.seat.now.place (g.G.Gate.asked c.args.gate.now c.args.gate.now) h c.args.seat.now.seen (g.G.Gate.unasked c.args.gate.now) saw;
 }
 
@@ -70,9 +67,7 @@ returns-in-Allows g c = record {
   of_shape = tt;
   user = sym (ap (user_after c.args.attending.now.user) c.in-Allows.is);
   room = refl;
-  acted = λ not. refl;
-  stopped = λ is. absurd (some_there _ _ refl is);
-  later = stayed _ _ refl;
+  stopped = still _ _ refl;
   entered = λ h saw. entered_at c.args.seat.now.opening c.args.seat.now.place (g.G.Gate.asked c.args.gate.now c.args.gate.now) h c.mark-newest.new.self.seen false false _ [] (λ k. answers k _) (g.G.Gate.unasked c.args.gate.now) (c.mark-newest.ensures.mark h saw).0;
 }
 
@@ -83,9 +78,7 @@ returns-in-Inhibits g c = record {
   of_shape = tt;
   user = sym (ap (user_after c.args.attending.now.user) c.in-Inhibits.is);
   room = refl;
-  acted = λ not. refl;
-  stopped = λ is. absurd (some_there _ _ refl is);
-  later = stayed _ _ refl;
+  stopped = still _ _ refl;
   entered = λ h saw. entered_none c.args.seat.now.opening c.args.seat.now.place (g.G.Gate.asked c.args.gate.now c.args.gate.now) h c.args.seat.now.seen (g.G.Gate.unasked c.args.gate.now) saw;
 }
 
@@ -96,9 +89,7 @@ returns-in-Lists g c = record {
   of_shape = c.rows.ensures.of_shape;
   user = sym (ap (user_after c.args.attending.now.user) c.in-Lists.is);
   room = c.rows.ensures.room;
-  acted = λ not. refl;
-  stopped = λ is. absurd (some_there _ _ refl is);
-  later = stayed _ _ refl;
+  stopped = still _ _ refl;
   entered = λ h saw. entered_at c.args.seat.now.opening c.args.seat.now.place (g.G.Gate.asked c.args.gate.now c.args.gate.now) h c.rows.new.self.seen false false _ [] (λ k. answers k _) (g.G.Gate.unasked c.args.gate.now) (c.rows.ensures.rows h saw).0;
 }
 
@@ -109,86 +100,82 @@ returns-in-Shows g c = record {
   of_shape = c.inventory-inventory.ensures.of_shape;
   user = sym (ap (user_after c.args.attending.now.user) c.in-Shows.is);
   room = refl;
-  acted = λ not. refl;
-  stopped = λ is. absurd (some_there _ _ refl is);
-  later = stayed _ _ refl;
+  stopped = still _ _ refl;
   entered = λ h saw. entered_at c.args.seat.now.opening c.args.seat.now.place (g.G.Gate.asked c.args.gate.now c.args.gate.now) h c.inventory-inventory.new.self.seen false false _ [] (λ k. answers k _) (g.G.Gate.unasked c.args.gate.now) (c.inventory-inventory.ensures.inventory h saw).1.0;
 }
 
 pub returns-in-Done : goal.returns-in-Done
 returns-in-Done g c = record {
   same = c.restart.ensures.same;
-  acts = λ h saw. rw c.in-Restarts.is (acts_restarted _ _ h _ _ _ (c.restart.ensures.restarted h saw) c.in-Done.is);
+  acts = λ h saw. rw c.in-Restarts.is (acts_restarted _ _ h _ _ _ (c.restart.ensures.restarted h saw) (c.in_ok-restart-in-Restarts.was ∙ ap (λ (p : Changed). Ok p) c.in-Done.is));
   of_shape = tt;
   user = sym (ap (user_after c.args.attending.now.user) c.in-Restarts.is);
   room = refl;
-  acted = λ not. c.restart.ensures.done (apart changed_goes _ _ _ c.in-Done.is refl refl);
-  stopped = λ is. absurd (some_there _ _ refl is);
-  later = c.restart.ensures.later;
+  stopped = still _ _ (c.in_ok-restart-in-Restarts.ensures.stopped.only (λ e. never e));
   entered = c.restart.ensures.entered;
 }
 
 pub returns-in-Denied : goal.returns-in-Denied
 returns-in-Denied g c = record {
   same = c.restart.ensures.same;
-  acts = λ h saw. rw c.in-Restarts.is (acts_unrestarted _ _ h _ _ _ (c.restart.ensures.restarted h saw) c.in-Denied.cause c.in-Denied.is);
+  acts = λ h saw. rw c.in-Restarts.is (acts_unrestarted _ _ h _ _ _ (c.restart.ensures.restarted h saw) c.in-Denied.cause (c.in_ok-restart-in-Restarts.was ∙ ap (λ (p : Changed). Ok p) c.in-Denied.is));
   of_shape = tt;
   user = sym (ap (user_after c.args.attending.now.user) c.in-Restarts.is);
   room = refl;
-  acted = λ not. c.restart.ensures.done (apart changed_goes _ _ _ c.in-Denied.is refl refl);
-  stopped = λ is. absurd (some_there _ _ refl is);
-  later = c.restart.ensures.later;
+  stopped = still _ _ (c.in_ok-restart-in-Restarts.ensures.stopped.only (λ e. never e));
   entered = c.restart.ensures.entered;
 }
 
-pub returns-in-Stopped : goal.returns-in-Stopped
-returns-in-Stopped g c = record {
-  same = c.restart.ensures.same;
-  acts = λ h saw. rw c.in-Restarts.is (acts_cut _ _ h _ _ _ (c.restart.ensures.restarted h saw) c.in-Stopped.is);
-  of_shape = tt;
-  user = sym (ap (user_after c.args.attending.now.user) c.in-Restarts.is);
-  room = refl;
-  acted = λ not. absurd (not refl);
-  stopped = λ is. c.restart.ensures.stopped c.in-Stopped.is;
-  later = c.restart.ensures.later;
-  entered = c.restart.ensures.entered;
-}
+pub returns-in_err-restart-in-Restarts : goal.returns-in_err-restart-in-Restarts
+returns-in_err-restart-in-Restarts g c =
+    let seat = c.args.seat.now in
+    let stop = c.from_residual.ensures.0 in
+    record {
+      same = c.restart.ensures.same;
+      acts = λ h saw.
+          by_stop (λ (r : Result Acted Stopped). ActedIs seat.opening seat.place h c.args.attending.now c.args.ask.now r c.args.rows.now.items c.args.attending.now c.restart.new.self.seen) c.from_residual.result stop
+          (rw c.in-Restarts.is (acts_cut _ _ h _ _ _ (c.restart.ensures.restarted h saw) c.in_err-restart-in-Restarts.was));
+      of_shape = by_stop (λ (r : Result Acted Stopped). IfOk r (IsAptActed seat.opening.first.fold.table.shape c.args.rows.now.items)) c.from_residual.result stop tt;
+      user = sym (ap (user_after c.args.attending.now.user) c.in-Restarts.is);
+      room = refl;
+      stopped = subst (λ (b : Bool). RoseOnlyFor (g.G.Gate.stops c.args.gate.now) (g.G.Gate.stops c.restart.new.gate) (b ≡ true)) (ap is_err c.in_err-restart-in-Restarts.was ∙ sym stop) c.restart.ensures.stopped;
+      entered = c.restart.ensures.entered;
+    }
 
-pub returns-in-Done-change : goal.returns-in-Done-change
-returns-in-Done-change g c = record {
+pub returns-in-Done-2 : goal.returns-in-Done-2
+returns-in-Done-2 g c = record {
   same = c.change.ensures.same;
-  acts = λ h saw. rw c.in-Changes.is (acts_done _ _ h _ c.in-Changes.op _ _ (c.change.ensures.changed h saw) c.in-Done-change.is);
+  acts = λ h saw. rw c.in-Changes.is (acts_done _ _ h _ c.in-Changes.op _ _ (c.change.ensures.changed h saw) (c.in_ok-change-in-Changes.was ∙ ap (λ (p : Changed). Ok p) c.in-Done-2.is));
   of_shape = tt;
   user = sym (ap (user_after c.args.attending.now.user) c.in-Changes.is);
   room = refl;
-  acted = λ not. c.change.ensures.done (apart changed_goes _ _ _ c.in-Done-change.is refl refl);
-  stopped = λ is. absurd (some_there _ _ refl is);
-  later = c.change.ensures.later;
+  stopped = still _ _ (c.in_ok-change-in-Changes.ensures.stopped.only (λ e. never e));
   entered = c.change.ensures.entered;
 }
 
-pub returns-in-Denied-change : goal.returns-in-Denied-change
-returns-in-Denied-change g c = record {
+pub returns-in-Denied-2 : goal.returns-in-Denied-2
+returns-in-Denied-2 g c = record {
   same = c.change.ensures.same;
-  acts = λ h saw. rw c.in-Changes.is (acts_refused _ _ h _ c.in-Changes.op _ _ (c.change.ensures.changed h saw) c.in-Denied-change.cause c.in-Denied-change.is);
+  acts = λ h saw. rw c.in-Changes.is (acts_refused _ _ h _ c.in-Changes.op _ _ (c.change.ensures.changed h saw) c.in-Denied-2.cause (c.in_ok-change-in-Changes.was ∙ ap (λ (p : Changed). Ok p) c.in-Denied-2.is));
   of_shape = tt;
   user = sym (ap (user_after c.args.attending.now.user) c.in-Changes.is);
   room = refl;
-  acted = λ not. c.change.ensures.done (apart changed_goes _ _ _ c.in-Denied-change.is refl refl);
-  stopped = λ is. absurd (some_there _ _ refl is);
-  later = c.change.ensures.later;
+  stopped = still _ _ (c.in_ok-change-in-Changes.ensures.stopped.only (λ e. never e));
   entered = c.change.ensures.entered;
 }
 
-pub returns-in-Stopped-change : goal.returns-in-Stopped-change
-returns-in-Stopped-change g c = record {
-  same = c.change.ensures.same;
-  acts = λ h saw. rw c.in-Changes.is (acts_stopped _ _ h _ c.in-Changes.op _ _ (c.change.ensures.changed h saw) c.in-Stopped-change.is);
-  of_shape = tt;
-  user = sym (ap (user_after c.args.attending.now.user) c.in-Changes.is);
-  room = refl;
-  acted = λ not. absurd (not refl);
-  stopped = λ is. c.change.ensures.stopped c.in-Stopped-change.is;
-  later = c.change.ensures.later;
-  entered = c.change.ensures.entered;
-}
+pub returns-in_err-change-in-Changes : goal.returns-in_err-change-in-Changes
+returns-in_err-change-in-Changes g c =
+    let seat = c.args.seat.now in
+    let stop = c.from_residual-in_err-change-in-Changes.ensures.0 in
+    record {
+      same = c.change.ensures.same;
+      acts = λ h saw.
+          by_stop (λ (r : Result Acted Stopped). ActedIs seat.opening seat.place h c.args.attending.now c.args.ask.now r c.args.rows.now.items c.args.attending.now c.change.new.self.seen) c.from_residual-in_err-change-in-Changes.result stop
+          (rw c.in-Changes.is (acts_stopped _ _ h _ c.in-Changes.op _ _ (c.change.ensures.changed h saw) c.in_err-change-in-Changes.was));
+      of_shape = by_stop (λ (r : Result Acted Stopped). IfOk r (IsAptActed seat.opening.first.fold.table.shape c.args.rows.now.items)) c.from_residual-in_err-change-in-Changes.result stop tt;
+      user = sym (ap (user_after c.args.attending.now.user) c.in-Changes.is);
+      room = refl;
+      stopped = subst (λ (b : Bool). RoseOnlyFor (g.G.Gate.stops c.args.gate.now) (g.G.Gate.stops c.change.new.gate) (b ≡ true)) (ap is_err c.in_err-change-in-Changes.was ∙ sym stop) c.change.ensures.stopped;
+      entered = c.change.ensures.entered;
+    }

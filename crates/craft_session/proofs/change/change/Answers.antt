@@ -1,4 +1,4 @@
-use Rattle.std.proofs.Common.{◌≡◌, ◌⊎◌, le_of_eq, ℕ, false, List, [], ◌∷◌, ◌++◌, inl, inr, refl, sym, ◌∙◌, ap, subst}
+use Rattle.std.proofs.Common.{◌≡◌, ◌⊎◌, ℕ, false, Ok, List, [], ◌∷◌, ◌++◌, inl, inr, refl, sym, ◌∙◌, ap, subst}
 use base.Stored.{Gv}
 use Rattle.dxc_disk.specs.Disks.{DiskState}
 use Rattle.dxc_model.specs.declared.op.Op.{Op}
@@ -10,13 +10,13 @@ use Rattle.xc_core.specs.Seeing.{HasPlan, TurnedBack, entry}
 use Rattle.xc_core.specs.Begins.{plan_of}
 use Rattle.xc_core.specs.States.{Opening, opening_of}
 use Rattle.xc_core.specs.Turns.{TookIs}
-use Rattle.craft_session.specs.declared.change.Changed.TheVariants.{Denied, Stopped}
+use Rattle.craft_session.specs.declared.change.Changed.TheVariants.{Denied}
 use Rattle.craft_session.specs.Askings.{no_mending}
 use Rattle.craft_session.specs.Changing.{ChangedIs}
 use Rattle.craft_session.proofs.Changing.{changed_on, mended_back, mended_none, taken_passed, took_back, took_denied, took_halted, took_rolling, turned_back_mended}
 use Rattle.craft_session.proofs.Gated.{entered_back, entered_none, entered_on, entered_take_on, takes_out}
 use Rattle.craft_session.proofs.Gating.{carried_asked, denied_asked}
-use Rattle.craft_session.proofs.Ends.{apart, changed_goes}
+use Rattle.craft_session.proofs.Ends.{still}
 use Rattle.craft_session.proofs.change.change.Goals as goal
 
 -- the Provisioner wasn't taken
@@ -39,9 +39,7 @@ returns-in-Rolling g c =
     record {
       pass = (r.pass.0, r.pass.1 ∙ t.pass.1);
       astray = r.astray;
-      done = r.done;
       stopped = r.stopped;
-      later = r.later;
       changed = λ h saw.
           let b = mended_none (opening_of g.D.Disk.state c.args.turns.now.first) c.args.pass.now.number h c.args.pass.now.seen saw in
           let k = c.take.ensures.took (h ++ b.front) b.saw in
@@ -59,13 +57,11 @@ returns-in-Denied g c =
     record {
       pass = (t.pass.0, t.pass.1);
       astray = t.astray;
-      done = λ _. refl;
-      stopped = λ is. absurd (apart changed_goes (Denied c.in-Denied.cause) (Denied c.in-Denied.cause) Stopped refl refl refl is);
-      later = le_of_eq refl;
+      stopped = still _ _ refl;
       changed = λ h saw.
           let b = mended_none (opening_of g.D.Disk.state c.args.turns.now.first) c.args.pass.now.number h c.args.pass.now.seen saw in
           let k = c.take.ensures.took (h ++ b.front) b.saw in
-          changed_on (opening_of g.D.Disk.state c.args.turns.now.first) c.args.pass.now.number h c.args.op.now c.args.pass.now.seen c.take.new.pass.seen b (Denied c.in-Denied.cause) (took_denied (opening_of g.D.Disk.state c.args.turns.now.first) c.args.pass.now.number (h ++ b.front) g.D.Disk.told g.D.Disk.state c.args.op.now c.take.new.pass.seen c.take.result k c.in-Denied.cause c.in-Denied.is);
+          changed_on (opening_of g.D.Disk.state c.args.turns.now.first) c.args.pass.now.number h c.args.op.now c.args.pass.now.seen c.take.new.pass.seen b (Ok (Denied c.in-Denied.cause)) (took_denied (opening_of g.D.Disk.state c.args.turns.now.first) c.args.pass.now.number (h ++ b.front) g.D.Disk.told g.D.Disk.state c.args.op.now c.take.new.pass.seen c.take.result k c.in-Denied.cause c.in-Denied.is);
       asked = denied_asked g.G.Gate.asked g.G.Gate.asked_on c.args.gate.now c.args.gate.now c.args.gate.now [] no_mending (g.G.Gate.unasked c.args.gate.now) c.in-Denied.cause (g.G.Gate.unasked c.args.gate.now);
       entered = λ h saw. entered_take_on g.G.Gate.asked g.G.Gate.asked_on c.args.gate.now c.args.gate.now c.args.gate.now _ _ _ _ _ _ g.D.Disk.told g.D.Disk.state c.args.op.now c.take.result _ (ap takes_out c.in-Denied.is) refl (entered_none (opening_of g.D.Disk.state c.args.turns.now.first) c.args.pass.now.number (g.G.Gate.asked c.args.gate.now c.args.gate.now) h c.args.pass.now.seen (g.G.Gate.unasked c.args.gate.now) saw) (g.G.Gate.unasked c.args.gate.now) t.took;
     }
@@ -84,9 +80,7 @@ returns-in-Halted g c =
           changed_on (opening_of g.D.Disk.state c.args.turns.now.first) c.args.pass.now.number h c.args.op.now c.take.new.pass.seen c.change_again.new.pass.seen b c.change_again.result
           (subst (λ (n : ℕ). ChangedIs (opening_of g.D.Disk.state c.args.turns.now.first) n (h ++ b.front) c.args.op.now c.change_again.new.pass.seen c.change_again.result) c.take.ensures.pass.1 (r.changed (h ++ b.front) b.saw));
       astray = r.astray;
-      done = r.done;
       stopped = r.stopped;
-      later = r.later;
       asked = r.asked;
       entered = λ h saw. entered_on g.G.Gate.asked g.G.Gate.asked_on c.args.gate.now c.args.gate.now c.change_again.new.gate (opening_of g.D.Disk.state c.args.turns.now.first) c.args.pass.now.number c.take.new.pass.number false false false h c.take.new.pass.seen c.change_again.new.pass.seen c.take.ensures.pass.1
           (entered_back (opening_of g.D.Disk.state c.args.turns.now.first) c.args.pass.now.number (g.G.Gate.asked c.args.gate.now c.args.gate.now) h c.take.new.pass.seen (g.G.Gate.unasked c.args.gate.now) (turned g.D.Disk.told g.D.Disk.state (opening_of g.D.Disk.state c.args.turns.now.first) c.args.pass.now.number h c.args.op.now c.take.new.pass.seen c.take.result (c.take.ensures.took h saw) c.in-Halted.is)) r.entered;

@@ -1,18 +1,22 @@
-use Rattle.std.proofs.Common.{le_of_eq, rules, ℕ, [], ◌∷◌, ◌++◌, inl, inr, refl, sym, ◌∙◌, ap, subst}
+use Rattle.std.specs.Prelude.{is_err}
+use Rattle.std.proofs.Common.{rules, ℕ, Result, Ok, Err, [], ◌∷◌, ◌++◌, inl, inr, refl, sym, ◌∙◌, ap, subst}
+use Rattle.dxc_outside.specs.declared.stopped.Stopped.{Stopped}
+use Rattle.dxc_outside.specs.Stops.{the_stop}
 use Rattle.dxc_model.specs.declared.entry.Outcome.TheVariants.{Taken}
 use Rattle.dxc_model.proofs.FirstCauses.{changes}
 use Rattle.xc_core.specs.Seeing.{HasPlan, entry}
 use Rattle.xc_core.specs.Begins.{plan_of}
 use Rattle.xc_core.specs.States.{opening_of}
 use Rattle.xc_core.specs.Turns.{TookIs}
-use Rattle.craft_session.specs.declared.change.Changed.TheVariants.{Denied, Stopped}
+use Rattle.craft_session.specs.declared.change.Changed.{Changed}
+use Rattle.craft_session.specs.declared.change.Changed.TheVariants.{Denied}
 use Rattle.craft_session.specs.declared.mend.Mended.{Mended}
 use Rattle.craft_session.specs.Changing.{ChangedIs, MendedIs}
 use Rattle.craft_session.proofs.Changing.{changed_on, mend_denied, mend_stopped, mended_back, mended_none, mends_ready, mends_wait, taken_passed, took_back, took_denied, took_halted, took_rolling, turned_back_passed}
-use Rattle.craft_session.specs.Askings.{no_mending}
+use Rattle.craft_session.specs.Askings.{ChangeAsked, no_mending}
 use Rattle.craft_session.proofs.Gated.{entered_none, entered_on, entered_take_on, takes_out}
 use Rattle.craft_session.proofs.Gating.{denied_asked, mending_denied, mending_more, mending_none, mending_stopped, carried_asked, nothing_more}
-use Rattle.craft_session.proofs.Ends.{apart, changed_goes, later_behind, mended_goes, rose_behind}
+use Rattle.craft_session.proofs.Ends.{by_stop, never, rose_after, rose_by, still}
 use Rattle.craft_session.proofs.change.change_again.Goals as goal
 
 pub take-requires-clause-seen : goal.take-requires-clause-seen
@@ -38,9 +42,7 @@ returns-in-Rolling g c =
     record {
       pass = (r.pass.0, r.pass.1 ∙ t.pass.1 ∙ k.number);
       astray = r.astray;
-      done = λ not. r.done not ∙ unstopped;
-      stopped = λ is. rose_behind _ _ _ unstopped (r.stopped is);
-      later = later_behind _ _ _ unstopped r.later;
+      stopped = rose_after _ _ _ _ unstopped r.stopped;
       changed = λ h saw.
           let b = c.loop.invariant.mended h saw in
           let k = subst (λ (n : ℕ). TookIs g.D.Disk.told g.D.Disk.state (opening_of g.D.Disk.state c.args.turns.now.first) n (h ++ b.front) c.args.op.now c.take.new.pass.seen c.take.result) c.loop.invariant.number (c.take.ensures.took (h ++ b.front) b.saw) in
@@ -59,13 +61,11 @@ returns-in-Denied g c =
     record {
       pass = (t.pass.0, t.pass.1 ∙ k.number);
       astray = t.astray;
-      done = λ not. k.gate;
-      stopped = λ is. absurd (apart changed_goes (Denied c.in-Denied.cause) (Denied c.in-Denied.cause) Stopped refl refl refl is);
-      later = le_of_eq (sym k.gate);
+      stopped = still _ _ k.gate;
       changed = λ h saw.
           let b = c.loop.invariant.mended h saw in
           let k = subst (λ (n : ℕ). TookIs g.D.Disk.told g.D.Disk.state (opening_of g.D.Disk.state c.args.turns.now.first) n (h ++ b.front) c.args.op.now c.take.new.pass.seen c.take.result) c.loop.invariant.number (c.take.ensures.took (h ++ b.front) b.saw) in
-          changed_on (opening_of g.D.Disk.state c.args.turns.now.first) c.args.pass.now.number h c.args.op.now c.loop.pass.seen c.take.new.pass.seen b (Denied c.in-Denied.cause) (took_denied (opening_of g.D.Disk.state c.args.turns.now.first) c.args.pass.now.number (h ++ b.front) g.D.Disk.told g.D.Disk.state c.args.op.now c.take.new.pass.seen c.take.result k c.in-Denied.cause c.in-Denied.is);
+          changed_on (opening_of g.D.Disk.state c.args.turns.now.first) c.args.pass.now.number h c.args.op.now c.loop.pass.seen c.take.new.pass.seen b (Ok (Denied c.in-Denied.cause)) (took_denied (opening_of g.D.Disk.state c.args.turns.now.first) c.args.pass.now.number (h ++ b.front) g.D.Disk.told g.D.Disk.state c.args.op.now c.take.new.pass.seen c.take.result k c.in-Denied.cause c.in-Denied.is);
       asked = denied_asked g.G.Gate.asked g.G.Gate.asked_on c.args.gate.now c.loop.gate c.loop.gate k.asked.0 k.asked.1 k.asked.2 c.in-Denied.cause (g.G.Gate.unasked c.loop.gate);
       entered = λ h saw. entered_take_on g.G.Gate.asked g.G.Gate.asked_on c.args.gate.now c.loop.gate c.loop.gate _ _ _ _ _ _ g.D.Disk.told g.D.Disk.state c.args.op.now c.take.result _ (ap takes_out c.in-Denied.is) k.number (k.entered h saw) (g.G.Gate.unasked c.loop.gate) t.took;
     }
@@ -106,16 +106,16 @@ loop-preserved-in-Ready g c = record {
       let d = mended_back (opening_of g.D.Disk.state c.args.turns.now.first) c.args.pass.now.number h c.loop.pass.seen c.take.new.pass.seen b (turned_back_passed (opening_of g.D.Disk.state c.args.turns.now.first) c.args.pass.now.number (h ++ b.front) c.take.new.pass.seen (took_halted (opening_of g.D.Disk.state c.args.turns.now.first) c.args.pass.now.number (h ++ b.front) g.D.Disk.told g.D.Disk.state c.args.op.now c.take.new.pass.seen c.take.result k c.in-Halted.is)) in
       let m = subst (λ (n : ℕ). MendedIs (opening_of g.D.Disk.state c.args.turns.now.first) n (h ++ d.front) c.args.op.now c.mend.new.pass.seen c.mend.result) (c.take.ensures.pass.1 ∙ c.loop.invariant.number) (c.mend.ensures.mended (h ++ d.front) d.saw) in
       elim c.in-Ready.is [
-        | inl is ↦ mends_ready (opening_of g.D.Disk.state c.args.turns.now.first) c.args.pass.now.number h (opening_of g.D.Disk.state c.args.turns.now.first).first.fold.table.shape c.args.op.now c.requires.apt c.take.new.pass.seen c.mend.new.pass.seen d c.mend.result m is
-        | inr is ↦ mends_wait (opening_of g.D.Disk.state c.args.turns.now.first) c.args.pass.now.number h (opening_of g.D.Disk.state c.args.turns.now.first).first.fold.table.shape c.args.op.now c.requires.apt c.take.new.pass.seen c.mend.new.pass.seen d c.mend.result m is
+        | inl is ↦ mends_ready (opening_of g.D.Disk.state c.args.turns.now.first) c.args.pass.now.number h (opening_of g.D.Disk.state c.args.turns.now.first).first.fold.table.shape c.args.op.now c.requires.apt c.take.new.pass.seen c.mend.new.pass.seen d c.mend.result m (c.in_ok-mend-in-Halted.was ∙ ap (λ (p : Mended). Ok p) is)
+        | inr is ↦ mends_wait (opening_of g.D.Disk.state c.args.turns.now.first) c.args.pass.now.number h (opening_of g.D.Disk.state c.args.turns.now.first).first.fold.table.shape c.args.op.now c.requires.apt c.take.new.pass.seen c.mend.new.pass.seen d c.mend.result m (c.in_ok-mend-in-Halted.was ∙ ap (λ (p : Mended). Ok p) is)
       ];
-  gate = c.mend.ensures.going (λ is. elim c.in-Ready.is [ inl ready ↦ apart mended_goes _ _ _ ready refl refl is | inr waits ↦ apart mended_goes _ _ _ waits refl refl is ]) ∙ c.loop.invariant.gate;
-  asked = elim c.in-Ready.is [ inl is ↦ mending_more g.G.Gate.asked g.G.Gate.asked_on c.args.gate.now c.loop.gate c.mend.new.gate c.loop.invariant.asked.0 c.loop.invariant.asked.1 (nothing_more g.G.Gate.asked g.G.Gate.asked_on c.args.gate.now c.loop.gate c.loop.gate c.loop.invariant.asked.0 c.loop.invariant.asked.2 (g.G.Gate.unasked c.loop.gate)) c.mend.result is c.mend.ensures.asked | inr is ↦ mending_none g.G.Gate.asked g.G.Gate.asked_on c.args.gate.now c.loop.gate c.mend.new.gate c.loop.invariant.asked.0 c.loop.invariant.asked.1 (nothing_more g.G.Gate.asked g.G.Gate.asked_on c.args.gate.now c.loop.gate c.loop.gate c.loop.invariant.asked.0 c.loop.invariant.asked.2 (g.G.Gate.unasked c.loop.gate)) c.mend.result is c.mend.ensures.asked ];
+  gate = c.in_ok-mend-in-Halted.ensures.stopped.only (λ e. never e) ∙ c.loop.invariant.gate;
+  asked = elim c.in-Ready.is [ inl is ↦ mending_more g.G.Gate.asked g.G.Gate.asked_on c.args.gate.now c.loop.gate c.mend.new.gate c.loop.invariant.asked.0 c.loop.invariant.asked.1 (nothing_more g.G.Gate.asked g.G.Gate.asked_on c.args.gate.now c.loop.gate c.loop.gate c.loop.invariant.asked.0 c.loop.invariant.asked.2 (g.G.Gate.unasked c.loop.gate)) c.mend.result (c.in_ok-mend-in-Halted.was ∙ ap (λ (p : Mended). Ok p) is) c.mend.ensures.asked | inr is ↦ mending_none g.G.Gate.asked g.G.Gate.asked_on c.args.gate.now c.loop.gate c.mend.new.gate c.loop.invariant.asked.0 c.loop.invariant.asked.1 (nothing_more g.G.Gate.asked g.G.Gate.asked_on c.args.gate.now c.loop.gate c.loop.gate c.loop.invariant.asked.0 c.loop.invariant.asked.2 (g.G.Gate.unasked c.loop.gate)) c.mend.result (c.in_ok-mend-in-Halted.was ∙ ap (λ (p : Mended). Ok p) is) c.mend.ensures.asked ];
   entered = λ h saw. entered_on g.G.Gate.asked g.G.Gate.asked_on c.args.gate.now c.loop.gate c.mend.new.gate _ _ _ _ _ _ _ _ _ (c.take.ensures.pass.1 ∙ c.loop.invariant.number) (entered_take_on g.G.Gate.asked g.G.Gate.asked_on c.args.gate.now c.loop.gate c.loop.gate _ _ _ _ _ _ g.D.Disk.told g.D.Disk.state c.args.op.now c.take.result _ (ap takes_out c.in-Halted.is) c.loop.invariant.number (c.loop.invariant.entered h saw) (g.G.Gate.unasked c.loop.gate) c.take.ensures.took) c.mend.ensures.entered;
 }
 
-pub returns-in-Denied-mend : goal.returns-in-Denied-mend
-returns-in-Denied-mend g c =
+pub returns-in-Denied-2 : goal.returns-in-Denied-2
+returns-in-Denied-2 g c =
     let k = c.loop.invariant in
     let t = c.take.ensures in
     let m = c.mend.ensures in
@@ -123,37 +123,34 @@ returns-in-Denied-mend g c =
     record {
       pass = (m.pass.0, m.pass.1 ∙ t.pass.1 ∙ k.number);
       astray = m.astray;
-      done = λ not. m.going (apart mended_goes _ _ _ c.in-Denied-mend.is refl refl) ∙ unstopped;
-      stopped = λ is. absurd (apart changed_goes (Denied c.in-Denied-mend.cause) (Denied c.in-Denied-mend.cause) Stopped refl refl refl is);
-      later = later_behind _ _ _ unstopped m.later;
+      stopped = still _ _ (c.in_ok-mend-in-Halted.ensures.stopped.only (λ e. never e) ∙ unstopped);
       changed = λ h saw.
           let b = c.loop.invariant.mended h saw in
           let k = subst (λ (n : ℕ). TookIs g.D.Disk.told g.D.Disk.state (opening_of g.D.Disk.state c.args.turns.now.first) n (h ++ b.front) c.args.op.now c.take.new.pass.seen c.take.result) c.loop.invariant.number (c.take.ensures.took (h ++ b.front) b.saw) in
           let d = mended_back (opening_of g.D.Disk.state c.args.turns.now.first) c.args.pass.now.number h c.loop.pass.seen c.take.new.pass.seen b (turned_back_passed (opening_of g.D.Disk.state c.args.turns.now.first) c.args.pass.now.number (h ++ b.front) c.take.new.pass.seen (took_halted (opening_of g.D.Disk.state c.args.turns.now.first) c.args.pass.now.number (h ++ b.front) g.D.Disk.told g.D.Disk.state c.args.op.now c.take.new.pass.seen c.take.result k c.in-Halted.is)) in
           let m = subst (λ (n : ℕ). MendedIs (opening_of g.D.Disk.state c.args.turns.now.first) n (h ++ d.front) c.args.op.now c.mend.new.pass.seen c.mend.result) (c.take.ensures.pass.1 ∙ c.loop.invariant.number) (c.mend.ensures.mended (h ++ d.front) d.saw) in
-          changed_on (opening_of g.D.Disk.state c.args.turns.now.first) c.args.pass.now.number h c.args.op.now c.take.new.pass.seen c.mend.new.pass.seen d (Denied c.in-Denied-mend.cause) (mend_denied (opening_of g.D.Disk.state c.args.turns.now.first) c.args.pass.now.number (h ++ d.front) (opening_of g.D.Disk.state c.args.turns.now.first).first.fold.table.shape c.args.op.now c.requires.apt c.mend.new.pass.seen c.in-Denied-mend.cause (subst (λ (z : Mended). MendedIs (opening_of g.D.Disk.state c.args.turns.now.first) c.args.pass.now.number (h ++ d.front) c.args.op.now c.mend.new.pass.seen z) c.in-Denied-mend.is m));
-      asked = mending_denied g.G.Gate.asked g.G.Gate.asked_on c.args.gate.now c.loop.gate c.mend.new.gate c.loop.invariant.asked.0 c.loop.invariant.asked.1 (nothing_more g.G.Gate.asked g.G.Gate.asked_on c.args.gate.now c.loop.gate c.loop.gate c.loop.invariant.asked.0 c.loop.invariant.asked.2 (g.G.Gate.unasked c.loop.gate)) c.mend.result c.in-Denied-mend.cause c.in-Denied-mend.is c.mend.ensures.asked;
+          changed_on (opening_of g.D.Disk.state c.args.turns.now.first) c.args.pass.now.number h c.args.op.now c.take.new.pass.seen c.mend.new.pass.seen d (Ok (Denied c.in-Denied-2.cause)) (mend_denied (opening_of g.D.Disk.state c.args.turns.now.first) c.args.pass.now.number (h ++ d.front) (opening_of g.D.Disk.state c.args.turns.now.first).first.fold.table.shape c.args.op.now c.requires.apt c.mend.new.pass.seen c.in-Denied-2.cause (subst (λ (z : Result Mended Stopped). MendedIs (opening_of g.D.Disk.state c.args.turns.now.first) c.args.pass.now.number (h ++ d.front) c.args.op.now c.mend.new.pass.seen z) (c.in_ok-mend-in-Halted.was ∙ ap (λ (p : Mended). Ok p) c.in-Denied-2.is) m));
+      asked = mending_denied g.G.Gate.asked g.G.Gate.asked_on c.args.gate.now c.loop.gate c.mend.new.gate c.loop.invariant.asked.0 c.loop.invariant.asked.1 (nothing_more g.G.Gate.asked g.G.Gate.asked_on c.args.gate.now c.loop.gate c.loop.gate c.loop.invariant.asked.0 c.loop.invariant.asked.2 (g.G.Gate.unasked c.loop.gate)) c.mend.result c.in-Denied-2.cause (c.in_ok-mend-in-Halted.was ∙ ap (λ (p : Mended). Ok p) c.in-Denied-2.is) c.mend.ensures.asked;
       entered = λ h saw. entered_on g.G.Gate.asked g.G.Gate.asked_on c.args.gate.now c.loop.gate c.mend.new.gate _ _ _ _ _ _ _ _ _ (t.pass.1 ∙ k.number) (entered_take_on g.G.Gate.asked g.G.Gate.asked_on c.args.gate.now c.loop.gate c.loop.gate _ _ _ _ _ _ g.D.Disk.told g.D.Disk.state c.args.op.now c.take.result _ (ap takes_out c.in-Halted.is) k.number (k.entered h saw) (g.G.Gate.unasked c.loop.gate) t.took) m.entered;
     }
 
-pub returns-in-Stopped : goal.returns-in-Stopped
-returns-in-Stopped g c =
+pub returns-in_err-mend-in-Halted : goal.returns-in_err-mend-in-Halted
+returns-in_err-mend-in-Halted g c =
     let k = c.loop.invariant in
     let t = c.take.ensures in
     let m = c.mend.ensures in
-    let unstopped = k.gate in
+    let stop = c.from_residual.ensures.0 in
     record {
       pass = (m.pass.0, m.pass.1 ∙ t.pass.1 ∙ k.number);
       astray = m.astray;
-      done = λ not. absurd (not refl);
-      stopped = λ is. rose_behind _ _ _ unstopped (m.stopped c.in-Stopped.is);
-      later = later_behind _ _ _ unstopped m.later;
+      stopped = rose_by _ _ _ _ (rose_after _ _ _ _ k.gate m.stopped) (ap is_err c.in_err-mend-in-Halted.was) stop;
       changed = λ h saw.
           let b = c.loop.invariant.mended h saw in
           let k = subst (λ (n : ℕ). TookIs g.D.Disk.told g.D.Disk.state (opening_of g.D.Disk.state c.args.turns.now.first) n (h ++ b.front) c.args.op.now c.take.new.pass.seen c.take.result) c.loop.invariant.number (c.take.ensures.took (h ++ b.front) b.saw) in
           let d = mended_back (opening_of g.D.Disk.state c.args.turns.now.first) c.args.pass.now.number h c.loop.pass.seen c.take.new.pass.seen b (turned_back_passed (opening_of g.D.Disk.state c.args.turns.now.first) c.args.pass.now.number (h ++ b.front) c.take.new.pass.seen (took_halted (opening_of g.D.Disk.state c.args.turns.now.first) c.args.pass.now.number (h ++ b.front) g.D.Disk.told g.D.Disk.state c.args.op.now c.take.new.pass.seen c.take.result k c.in-Halted.is)) in
           let m = subst (λ (n : ℕ). MendedIs (opening_of g.D.Disk.state c.args.turns.now.first) n (h ++ d.front) c.args.op.now c.mend.new.pass.seen c.mend.result) (c.take.ensures.pass.1 ∙ c.loop.invariant.number) (c.mend.ensures.mended (h ++ d.front) d.saw) in
-          changed_on (opening_of g.D.Disk.state c.args.turns.now.first) c.args.pass.now.number h c.args.op.now c.take.new.pass.seen c.mend.new.pass.seen d Stopped (mend_stopped (opening_of g.D.Disk.state c.args.turns.now.first) c.args.pass.now.number (h ++ d.front) (opening_of g.D.Disk.state c.args.turns.now.first).first.fold.table.shape c.args.op.now c.requires.apt c.mend.new.pass.seen (subst (λ (z : Mended). MendedIs (opening_of g.D.Disk.state c.args.turns.now.first) c.args.pass.now.number (h ++ d.front) c.args.op.now c.mend.new.pass.seen z) c.in-Stopped.is m));
-      asked = mending_stopped g.G.Gate.asked g.G.Gate.asked_on c.args.gate.now c.loop.gate c.mend.new.gate c.loop.invariant.asked.0 c.loop.invariant.asked.1 (nothing_more g.G.Gate.asked g.G.Gate.asked_on c.args.gate.now c.loop.gate c.loop.gate c.loop.invariant.asked.0 c.loop.invariant.asked.2 (g.G.Gate.unasked c.loop.gate)) c.mend.result c.in-Stopped.is c.mend.ensures.asked;
+          by_stop (λ (r : Result Changed Stopped). ChangedIs (opening_of g.D.Disk.state c.args.turns.now.first) c.args.pass.now.number h c.args.op.now c.mend.new.pass.seen r) c.from_residual.result stop
+          (changed_on (opening_of g.D.Disk.state c.args.turns.now.first) c.args.pass.now.number h c.args.op.now c.take.new.pass.seen c.mend.new.pass.seen d (Err the_stop) (mend_stopped (opening_of g.D.Disk.state c.args.turns.now.first) c.args.pass.now.number (h ++ d.front) (opening_of g.D.Disk.state c.args.turns.now.first).first.fold.table.shape c.args.op.now c.requires.apt c.mend.new.pass.seen (subst (λ (z : Result Mended Stopped). MendedIs (opening_of g.D.Disk.state c.args.turns.now.first) c.args.pass.now.number (h ++ d.front) c.args.op.now c.mend.new.pass.seen z) c.in_err-mend-in-Halted.was m)));
+      asked = by_stop (λ (r : Result Changed Stopped). ChangeAsked (g.G.Gate.asked c.args.gate.now c.mend.new.gate) r) c.from_residual.result stop (mending_stopped g.G.Gate.asked g.G.Gate.asked_on c.args.gate.now c.loop.gate c.mend.new.gate c.loop.invariant.asked.0 c.loop.invariant.asked.1 (nothing_more g.G.Gate.asked g.G.Gate.asked_on c.args.gate.now c.loop.gate c.loop.gate c.loop.invariant.asked.0 c.loop.invariant.asked.2 (g.G.Gate.unasked c.loop.gate)) c.mend.result c.in_err-mend-in-Halted.was c.mend.ensures.asked);
       entered = λ h saw. entered_on g.G.Gate.asked g.G.Gate.asked_on c.args.gate.now c.loop.gate c.mend.new.gate _ _ _ _ _ _ _ _ _ (t.pass.1 ∙ k.number) (entered_take_on g.G.Gate.asked g.G.Gate.asked_on c.args.gate.now c.loop.gate c.loop.gate _ _ _ _ _ _ g.D.Disk.told g.D.Disk.state c.args.op.now c.take.result _ (ap takes_out c.in-Halted.is) k.number (k.entered h saw) (g.G.Gate.unasked c.loop.gate) t.took) m.entered;
     }

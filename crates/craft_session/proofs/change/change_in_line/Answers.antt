@@ -1,4 +1,4 @@
-use Rattle.std.proofs.Common.{le_of_eq, ℕ, false, List, Option, [], ◌++◌, refl, ◌∙◌, subst, inl}
+use Rattle.std.proofs.Common.{ℕ, false, List, Option, [], ◌++◌, refl, ◌∙◌, subst, inl}
 use Rattle.dxc_model.specs.declared.entry.Entry.{Entry}
 use Rattle.xc_core.specs.Seeing.{Saw, TurnedBack}
 use Rattle.xc_core.specs.Turns.{TookIs}
@@ -6,11 +6,10 @@ use Rattle.xc_core.specs.declared.turns.Took.TheVariants as took
 use Rattle.xc_core.specs.States.{opening_of}
 use Rattle.xc_core.specs.Views.{Denies, view}
 use Rattle.dxc_model.specs.declared.cause.Cause.{Cause}
-use Rattle.craft_session.specs.declared.change.Changed.TheVariants.{Denied, Stopped}
 use Rattle.craft_session.specs.Askings.{no_mending}
 use Rattle.craft_session.specs.Changing.{ChangedIs}
 use Rattle.craft_session.proofs.Changing.{changed_on, took_denied, turned_back_mended}
-use Rattle.craft_session.proofs.Ends.{apart, changed_goes}
+use Rattle.craft_session.proofs.Ends.{still}
 use Rattle.craft_session.proofs.Gated.{entered_back, entered_on, entered_take}
 use Rattle.craft_session.proofs.change.change_in_line.Goals as goal
 
@@ -28,9 +27,7 @@ returns-in-Some g c =
       pass = c.stand.ensures.pass;
       changed = λ h saw. took_denied (opening_of g.D.Disk.state c.args.turns.now.first) c.args.pass.now.number h g.D.Disk.told g.D.Disk.state c.args.op.now c.stand.new.pass.seen (took.Denied c.in-Some.cause) (denied h saw) c.in-Some.cause refl;
       astray = c.in-Some.ensures.astray;
-      done = λ _. refl;
-      stopped = λ is. absurd (apart changed_goes (Denied c.in-Some.cause) (Denied c.in-Some.cause) Stopped refl refl refl is);
-      later = le_of_eq refl;
+      stopped = still _ _ refl;
       asked = ([], no_mending, inl none);
       entered = λ h saw. entered_take (opening_of g.D.Disk.state c.args.turns.now.first) c.args.pass.now.number (g.G.Gate.asked c.args.gate.now c.args.gate.now) h c.stand.new.pass.seen g.D.Disk.told g.D.Disk.state c.args.op.now (took.Denied c.in-Some.cause) false refl none (denied h saw);
     }
@@ -48,9 +45,7 @@ returns-in-None g c =
           changed_on o own h c.args.op.now c.stand.new.pass.seen c.change-changed.new.pass.seen b c.change-changed.result
           (subst (λ (n : ℕ). ChangedIs o n (h ++ b.front) c.args.op.now c.change-changed.new.pass.seen c.change-changed.result) c.stand.ensures.pass.1 (r.changed (h ++ b.front) b.saw));
       astray = r.astray;
-      done = r.done;
       stopped = r.stopped;
-      later = r.later;
       asked = r.asked;
       entered = λ h saw. entered_on g.G.Gate.asked g.G.Gate.asked_on c.args.gate.now c.args.gate.now c.change-changed.new.gate o own c.stand.new.pass.number false false false h c.stand.new.pass.seen c.change-changed.new.pass.seen c.stand.ensures.pass.1
           (entered_back o own (g.G.Gate.asked c.args.gate.now c.args.gate.now) h c.stand.new.pass.seen (g.G.Gate.unasked c.args.gate.now) (back h saw)) r.entered;

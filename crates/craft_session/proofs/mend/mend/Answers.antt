@@ -1,12 +1,11 @@
-use Rattle.std.proofs.Common.{ap, ℕ, [], ◌∷◌, ◌++◌, ◌∙◌, le_of_eq, refl, sym, subst}
+use Rattle.std.proofs.Common.{ap, ℕ, [], ◌∷◌, ◌++◌, ◌∙◌, refl, sym, subst}
 use Rattle.dxc_model.specs.declared.entry.Outcome.TheVariants.{Taken}
 use Rattle.dxc_model.specs.declared.op.Op.TheVariants.{Restart}
 use Rattle.xc_core.specs.Seeing.{HasHeld, entry}
 use Rattle.xc_core.specs.States.{opening_of}
 use Rattle.craft_session.specs.Changing.{MendedIs}
-use Rattle.craft_session.specs.declared.mend.Mended.TheVariants.{Stopped, Waits}
 use Rattle.craft_session.proofs.Changing.{held_out, held_waits, mended_on_turns, taken_passed}
-use Rattle.craft_session.proofs.Ends.{apart, mended_goes}
+use Rattle.craft_session.proofs.Ends.{still}
 use Rattle.craft_session.proofs.Gated.{entered_hold, entered_on, holds_out}
 use Rattle.craft_session.proofs.mend.mend.Goals as goal
 
@@ -23,9 +22,7 @@ returns-in-Held g c =
     record {
       pass = (r.pass.0, r.pass.1 ∙ t.pass.1);
       astray = r.astray;
-      going = r.going;
       stopped = r.stopped;
-      later = r.later;
       mended = λ h saw.
           let x = held_out (opening_of g.D.Disk.state c.args.turns.now.first) c.args.pass.now.number h g.D.Disk.told g.D.Disk.state c.args.asked.now c.hold.new.pass.seen c.hold.result c.in-Held.driver c.in-Held.is (t.held h saw) in
           let d = taken_passed (opening_of g.D.Disk.state c.args.turns.now.first) c.args.pass.now.number h Restart c.hold.new.pass.seen x.0 in
@@ -41,9 +38,7 @@ returns-in-Waits g c =
     record {
       pass = t.pass;
       astray = t.astray;
-      going = λ not. refl;
-      stopped = λ is. absurd (apart mended_goes Waits Waits Stopped refl refl refl is);
-      later = le_of_eq refl;
+      stopped = still _ _ refl;
       mended = λ h saw. held_waits (opening_of g.D.Disk.state c.args.turns.now.first) c.args.pass.now.number h g.D.Disk.told g.D.Disk.state c.args.asked.now c.hold.new.pass.seen c.hold.result c.in-Waits.is (t.held h saw);
       asked = g.G.Gate.unasked c.args.gate.now;
       entered = λ h saw. entered_hold (opening_of g.D.Disk.state c.args.turns.now.first) c.args.pass.now.number (g.G.Gate.asked c.args.gate.now c.args.gate.now) h c.hold.new.pass.seen g.D.Disk.told g.D.Disk.state c.args.asked.now c.hold.result _ (ap holds_out c.in-Waits.is) (g.G.Gate.unasked c.args.gate.now) (t.held h saw);

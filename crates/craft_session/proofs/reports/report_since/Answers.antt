@@ -1,4 +1,4 @@
-use Rattle.std.proofs.Common.{false, ℕ, List, [], inr, refl, sym, ◌∙◌, ap, subst}
+use Rattle.std.proofs.Common.{false, ℕ, List, [], Ok, inr, refl, sym, ◌∙◌, ap, subst}
 use Rattle.std.specs.Arc.{arc_value}
 use base.Stored.{Gv}
 use Rattle.dxc_model.specs.declared.entry.Entry.{Entry}
@@ -16,7 +16,6 @@ use Rattle.craft_session.proofs.SessionSteps.{goes_told, looked_in_time}
 use Rattle.craft_session.proofs.Reporting.{told_for}
 use Rattle.craft_session.specs.Seats.{SeatAt}
 use Rattle.craft_session.specs.Timely.{IsTimely, Reached, starting, telling}
-use Rattle.craft_session.proofs.Ends.{sent_goes}
 use Rattle.craft_session.proofs.reports.report_since.Goals as goal
 
 pub returns : goal.returns
@@ -30,10 +29,10 @@ returns g c =
       reader = said.reader;
       link = record { out = said.told.wrote.part; wrote = said.told.wrote.wrote };
       hung_up = said.hung_up;
-      goes = λ user k c1 b r ahead at s.
+      goes = λ r ahead user k c1 b at s.
           let seat = c.args.desk.now.seat in
           let look = subst (λ (w : Opening × ℕ). (h : List Entry) → Saw w.0 seat.seen h → LookIs w.0 w.1 h c.args.cursor c.look-looked.new.self.seen c.look-looked.result c.look-looked.new.into.items) (λ i. (at.0 i, at.1 i)) c.look-looked.ensures.look in
-          subst (λ (n : Now). Goes (language_for user (arc_value c.args.desk.now.shelf)) g.K.Link.told g.C.Timestamps.told k (g.K.Link.state c.tell.new.link) c1 (g.C.Timestamps.coming c.tell.new.clock) b n c.of.result false r ahead) (sym (λ i. record { seen = (c.tell.ensures.seat i).seen; users = (c.tell.ensures.users i).seat.seen; attending = c.tell.ensures.attending i }))
+          subst (λ (n : Now). Goes (language_for user (arc_value c.args.desk.now.shelf)) g.K.Link.told g.C.Timestamps.told k (g.K.Link.state c.tell.new.link) c1 (g.C.Timestamps.coming c.tell.new.clock) b n (Ok c.of.result) false r ahead) (sym (λ i. record { seen = (c.tell.ensures.seat i).seen; users = (c.tell.ensures.users i).seat.seen; attending = c.tell.ensures.attending i }))
           (goes_told (language_for user (arc_value c.args.desk.now.shelf)) g.K.Link.told g.C.Timestamps.told k c1 b (g.K.Link.state c.args.link.now) (g.C.Timestamps.coming c.args.clock.now) (record { seen = seat.seen; users = c.args.desk.now.users.seat.seen; attending = c.args.desk.now.attending }) r ahead c.args.cursor c.requires.watched s c.look-looked.result c.look-looked.new.into.items c.look-looked.new.self.seen look (g.K.Link.state c.tell.new.link) (g.C.Timestamps.coming c.tell.new.clock) c.tell.result c.of.result c.of.ensures (told_for user (arc_value c.args.desk.now.shelf) _ _ _ _ _ _ _ _ c.tell.ensures.told));
       timely = λ r ahead user k c1 b at s.
           let seat = c.args.desk.now.seat in
@@ -41,7 +40,6 @@ returns g c =
           subst (λ (e : Reached). IsTimely (language_for user (arc_value c.args.desk.now.shelf)) (telling g.K.Link.told g.C.Timestamps.told g.C.Timestamps.stamped) (starting k c1 b) (g.K.Link.state c.args.link.now) e) (sym (λ i. record { written = (g.K.Link.state c.tell.new.link).written; seen = (c.tell.ensures.seat i).seen; users = (c.tell.ensures.users i).seat.seen }))
           (looked_in_time (language_for user (arc_value c.args.desk.now.shelf)) g.K.Link.told g.C.Timestamps.told k c1 b (g.K.Link.state c.args.link.now) (g.C.Timestamps.coming c.args.clock.now) (record { seen = seat.seen; users = c.args.desk.now.users.seat.seen; attending = c.args.desk.now.attending }) r ahead c.args.cursor c.requires.watched s c.look-looked.result c.look-looked.new.into.items c.look-looked.new.self.seen look (g.K.Link.state c.tell.new.link) (g.C.Timestamps.coming c.tell.new.clock)
           g.C.Timestamps.stamped c.look-looked.new.self c.args.desk.now.users.seat c.tell.result (told_for user (arc_value c.args.desk.now.shelf) _ _ _ _ _ _ _ _ c.tell.ensures.told) (looked.same.0 ∙ at.0, looked.same.1 ∙ at.1, at.2, at.3) refl refl c.tell.ensures.stamped);
-      unstopped = sent_goes _ _ c.of.ensures;
       entered = λ h saw.
           let seat = c.args.desk.now.seat in
           subst (λ (seen : List Gv). Entered seat.opening seat.place NothingAsked false false h seen) (sym (ap (λ (s : SeatAt). s.seen) said.seat)) (entered_at seat.opening seat.place NothingAsked h c.look-looked.new.self.seen false false _ [] (λ k. answers k _) refl (looked.look h saw).0);

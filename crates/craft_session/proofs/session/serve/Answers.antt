@@ -1,5 +1,5 @@
-use Rattle.std.specs.Prelude.{is_some}
-use Rattle.std.proofs.Common.{rules, ◌≡◌, ℕ, List, false, [], ◌∷◌, refl, sym, ◌∙◌, ap, subst, arith, inl, inr}
+use Rattle.std.specs.Prelude.{IsErr, is_some}
+use Rattle.std.proofs.Common.{rules, ◌≡◌, ℕ, List, false, [], ◌∷◌, Result, Ok, refl, sym, ◌∙◌, ap, subst, arith}
 use Rattle.std.proofs.lemmas.Grind.{common_steps}
 use Rattle.std.specs.Arc.{arc_value}
 use Rattle.craft_session.specs.Desks.{now}
@@ -7,10 +7,11 @@ use Rattle.craft_session.specs.declared.users.UserDesk.{UserDesk}
 use Rattle.craft_session.specs.Meanings.{language_for}
 use Rattle.tl1_text.specs.declared.reader.UnitKind.TheVariants.{More}
 use Rattle.tl1_text.specs.Reading.{Reader}
-use Rattle.craft_session.specs.declared.end.Progress.TheVariants.{Cut}
+use Rattle.craft_session.specs.declared.end.Progress.{Progress}
+use Rattle.craft_session.specs.declared.end.Progress.TheVariants.{On, Cut}
 use Rattle.craft_session.specs.Noted.{stood}
 use Rattle.craft_session.specs.Sessions.{Beginning, Stands}
-use Rattle.craft_session.proofs.Ends.{bytes_came, counted_none, cut_goes, end_came, end_no, few_here, few_more, idle_no, later_behind, on_goes, quiet_came, read_no, rose_behind, rose_later, spent_no, stayed, stop_no, unattended_no, cancelled_no, unheld, write_no}
+use Rattle.craft_session.proofs.Ends.{bytes_came, cancelled_no, counted_none, end_came, end_no, few_here, few_more, idle_no, later_behind, quiet_came, read_no, rose_behind, rose_later, spent_no, stayed, stayed_ok, stop_no, unattended_no, unheld, write_no}
 use Rattle.craft_session.proofs.Gated.{are_entered_beside, are_entered_none, are_entered_on}
 use Rattle.craft_session.proofs.Noted.{beside_reports, noted_beside, noted_more, noted_moved, noted_none, noted_read}
 use Rattle.craft_session.proofs.Prompt.{prompt_more, prompt_none}
@@ -24,12 +25,13 @@ use Rattle.craft_session.proofs.Idling.{Idles, awake_behind, byte_came, idle_at,
 use Rattle.craft_session.specs.Idling.{IsInTime, IsTooLong, silent_after}
 use Rattle.shelf_file.specs.declared.idle.IdleLimits.{IdleLimits}
 use Rattle.shelf_file.specs.Contents.{Contents}
+use Rattle.dxc_outside.specs.declared.stopped.Stopped.{Stopped}
 use Rattle.dxc_outside.specs.Items.{Item, quiet}
 use Rattle.craft_session.specs.declared.attending.Attending.{Attending}
 use Rattle.craft_session.proofs.Cancelling.{beside_look, heeds_more, heeds_none, looked, made_one, somebody_ended}
 use Rattle.craft_session.proofs.Waiting.{both_no, let_go_behind, let_go_here, some_made, unattended_at, waits_more, waits_none}
 use Rattle.craft_session.proofs.session.serve.Goals as goal
-use Rattle.craft_session.proofs.session.serve.Goals.{in-Bytes+in-On, in-Quiet+in-On-report}
+use Rattle.craft_session.proofs.session.serve.Goals.{in-Bytes+in-Ok-On, in-Quiet+in-On}
 
 pub loop-init : goal.loop-init
 loop-init g c = record {
@@ -53,8 +55,8 @@ loop-init g c = record {
   vacant = λ limits none. c.requires.vacant limits;
 }
 
-pub returns-in-Cut : goal.returns-in-Cut
-returns-in-Cut g c =
+pub returns-in-Ok-Cut : goal.returns-in-Ok-Cut
+returns-in-Ok-Cut g c =
     let moved = looked (language_for c.args.desk.now.attending.user (arc_value c.args.desk.now.shelf)) (telling g.K.Link.told g.C.Timestamps.told g.C.Timestamps.stamped) g.G.Gate.asked g.G.Gate.asked_on g.G.Gate.unasked (g.K.Link.state c.args.link.now) (g.K.Link.state c.loop.link) (g.C.Timestamps.coming c.args.clock.now) (g.C.Timestamps.coming c.loop.clock) c.args.desk.now.seat c.args.desk.now.users.seat c.args.gate.now c.loop.gate c.args.patience c.is_cancelled.result c.loop.desk.seat c.loop.desk.users.seat c.is_cancelled.new.desk.users.seat c.loop.desk.attending c.loop.desk.reader (record { seat_is = c.loop.invariant.seat; users_are = c.loop.invariant.users; stands = c.loop.invariant.stands; timely = c.loop.invariant.timely; entered = c.loop.invariant.asked }) c.is_cancelled.ensures.users c.is_cancelled.ensures.heeded c.is_cancelled.new.desk.seat c.is_cancelled.new.desk.attending c.is_cancelled.new.desk.reader c.is_cancelled.ensures.seat c.is_cancelled.ensures.attending c.is_cancelled.ensures.reader in
     let idles_here = subst (λ (a : Attending). Idles (c.args.patience ≡ Limited) ((arc_value c.args.desk.now.shelf).idle) (language_for c.args.desk.now.attending.user (arc_value c.args.desk.now.shelf)) g.K.Link.begun g.K.Link.told g.C.Timestamps.told (g.K.Link.state c.args.link.now) (g.C.Timestamps.coming c.args.clock.now) c.args.desk.now.seat c.args.desk.now.users.seat (g.K.Link.state c.loop.link) a.user c.loop.counter c.loop.silent) (sym c.is_cancelled.ensures.attending) c.loop.invariant.idles in
     let noted_here = noted_beside (arc_value c.args.desk.now.shelf) (telling g.K.Link.told g.C.Timestamps.told g.C.Timestamps.stamped) (stood (g.K.Link.state c.args.link.now) (g.C.Timestamps.coming c.args.clock.now) c.args.desk.now.seat c.args.desk.now.users.seat c.args.desk.now.attending) (stood (g.K.Link.state c.loop.link) (g.C.Timestamps.coming c.loop.clock) c.loop.desk.seat c.loop.desk.users.seat c.loop.desk.attending) (stood (g.K.Link.state c.loop.link) (g.C.Timestamps.coming c.loop.clock) c.is_cancelled.new.desk.seat c.is_cancelled.new.desk.users.seat c.is_cancelled.new.desk.attending) (g.N.Notes.noted c.args.notes.now c.loop.notes) c.loop.invariant.noted (beside_look g.K.Link.told (g.K.Link.state c.loop.link) (g.C.Timestamps.coming c.loop.clock) c.args.patience c.is_cancelled.result c.loop.desk.seat c.is_cancelled.new.desk.seat c.loop.desk.users.seat c.is_cancelled.new.desk.users.seat c.loop.desk.attending c.is_cancelled.new.desk.attending c.is_cancelled.ensures.seat c.is_cancelled.ensures.users c.is_cancelled.ensures.heeded c.is_cancelled.ensures.attending) in
@@ -62,45 +64,45 @@ returns-in-Cut g c =
     let p = c.seen-2.ensures.history in
     let seat = c.args.desk.now.seat in
     let b : Beginning = record { opening = seat.opening; users = c.args.desk.now.users.seat.opening; place = seat.place; before = h.0; users_before = p.0 } in
-    let s = c.serve_piece-progress.ensures in
-    let going : (g.K.Link.state c.serve_piece-progress.new.link).ended ≡ false = s.link.wrote.ended ∙ c.in-Bytes.ensures.read.ended in
-    let breaks = goes_cut_is _ _ _ _ _ _ _ _ _ _ _ _ _ c.in-Cut.is (moved_goes arc_value c.args.desk.now.attending.user g.K.Link.told g.C.Timestamps.told _ (g.K.Link.state c.serve_piece-progress.new.link) (g.C.Timestamps.coming c.loop.clock) (g.C.Timestamps.coming c.serve_piece-progress.new.clock) (now c.is_cancelled.new.desk) (now c.serve_piece-progress.new.desk) false c.is_cancelled.new.desk.reader c.serve_piece-progress.new.desk.reader c.serve_piece-progress.result c.args.desk.now.shelf c.is_cancelled.new.desk.shelf c.args.desk.now.seat c.is_cancelled.new.desk.seat c.args.desk.now.users.seat c.is_cancelled.new.desk.users.seat _ [] (c.is_cancelled.ensures.shelf ∙ c.loop.invariant.shelf) moved.here.seat_is moved.here.users_are (c.serve_piece-progress.ensures.goes c.args.desk.now.attending.user) _ _ b (refl, refl, refl, c.args.desk.now.same_place) (stands_piece _ _ _ _ _ _ _ _ _ _ _ _ _ _ (moved.here.stands b (refl, refl, refl, c.args.desk.now.same_place) h.1 p.1) c.in-Bytes.ensures.read (grind (arith, common_steps)))) in
+    let s = c.serve_piece.ensures in
+    let going : (g.K.Link.state c.serve_piece.new.link).ended ≡ false = s.link.wrote.ended ∙ c.in-Bytes.ensures.read.ended in
+    let breaks = goes_cut_is _ _ _ _ _ _ _ _ _ _ _ _ _ (c.in-Ok-Cut.is ∙ ap (λ (p : Progress). Ok p) c.in-Ok-Cut.field-0-is) (moved_goes arc_value c.args.desk.now.attending.user g.K.Link.told g.C.Timestamps.told _ (g.K.Link.state c.serve_piece.new.link) (g.C.Timestamps.coming c.loop.clock) (g.C.Timestamps.coming c.serve_piece.new.clock) (now c.is_cancelled.new.desk) (now c.serve_piece.new.desk) false c.is_cancelled.new.desk.reader c.serve_piece.new.desk.reader c.serve_piece.result c.args.desk.now.shelf c.is_cancelled.new.desk.shelf c.args.desk.now.seat c.is_cancelled.new.desk.seat c.args.desk.now.users.seat c.is_cancelled.new.desk.users.seat _ [] (c.is_cancelled.ensures.shelf ∙ c.loop.invariant.shelf) moved.here.seat_is moved.here.users_are (c.serve_piece.ensures.goes c.args.desk.now.attending.user) _ _ b (refl, refl, refl, c.args.desk.now.same_place) (stands_piece _ _ _ _ _ _ _ _ _ _ _ _ _ _ (moved.here.stands b (refl, refl, refl, c.args.desk.now.same_place) h.1 p.1) c.in-Bytes.ensures.read (grind (arith, common_steps)))) in
     record {
       shelf = s.shelf ∙ (c.is_cancelled.ensures.shelf ∙ c.loop.invariant.shelf);
       seat = (s.seat.0 ∙ moved.here.seat_is.0, s.seat.1 ∙ moved.here.seat_is.1, s.seat.2 ∙ moved.here.seat_is.2, s.seat.3 ∙ moved.here.seat_is.3);
       users = (s.users.0 ∙ moved.here.users_are.0, s.users.1 ∙ moved.here.users_are.1, s.users.2 ∙ moved.here.users_are.2, s.users.3 ∙ moved.here.users_are.3);
       hung_up = s.hung_up ∙ c.in-Bytes.ensures.hung_up ∙ c.loop.invariant.hung_up;
       session = record { before = h.0; users_before = p.0; saw = h.1; users_saw = p.1; attending = _; session = breaks };
-      prompt = prompt_more (language_for c.args.desk.now.attending.user (arc_value c.args.desk.now.shelf)) g.K.Link.begun g.K.Link.told g.C.Timestamps.told (g.K.Link.state c.args.link.now) (g.C.Timestamps.coming c.args.clock.now) c.args.desk.now.seat c.args.desk.now.users.seat (g.K.Link.state c.loop.link) (g.K.Link.state c.serve_piece-progress.new.link) _ (g.C.Timestamps.coming c.loop.clock) (now c.is_cancelled.new.desk) c.is_cancelled.new.desk.reader c.loop.invariant.prompt c.in-Bytes.ensures.begun moved.here.stands c.in-Bytes.ensures.read.reads s.link.wrote.reads;
-      heeds = λ limits. heeds_more (language_for c.args.desk.now.attending.user (arc_value c.args.desk.now.shelf)) g.K.Link.begun g.K.Link.told g.C.Timestamps.told (g.K.Link.state c.args.link.now) (g.C.Timestamps.coming c.args.clock.now) c.args.desk.now.seat c.args.desk.now.users.seat (g.K.Link.state c.loop.link) (g.K.Link.state c.serve_piece-progress.new.link) _ (g.C.Timestamps.coming c.loop.clock) (now c.is_cancelled.new.desk) c.is_cancelled.new.desk.reader (c.loop.invariant.heeds limits) c.in-Bytes.ensures.begun (λ b at saw users. (moved.here.stands b at saw users, moved.unended c.if-is_cancelled.false limits b at saw users)) c.in-Bytes.ensures.read.reads s.link.wrote.reads;
+      prompt = prompt_more (language_for c.args.desk.now.attending.user (arc_value c.args.desk.now.shelf)) g.K.Link.begun g.K.Link.told g.C.Timestamps.told (g.K.Link.state c.args.link.now) (g.C.Timestamps.coming c.args.clock.now) c.args.desk.now.seat c.args.desk.now.users.seat (g.K.Link.state c.loop.link) (g.K.Link.state c.serve_piece.new.link) _ (g.C.Timestamps.coming c.loop.clock) (now c.is_cancelled.new.desk) c.is_cancelled.new.desk.reader c.loop.invariant.prompt c.in-Bytes.ensures.begun moved.here.stands c.in-Bytes.ensures.read.reads s.link.wrote.reads;
+      heeds = λ limits. heeds_more (language_for c.args.desk.now.attending.user (arc_value c.args.desk.now.shelf)) g.K.Link.begun g.K.Link.told g.C.Timestamps.told (g.K.Link.state c.args.link.now) (g.C.Timestamps.coming c.args.clock.now) c.args.desk.now.seat c.args.desk.now.users.seat (g.K.Link.state c.loop.link) (g.K.Link.state c.serve_piece.new.link) _ (g.C.Timestamps.coming c.loop.clock) (now c.is_cancelled.new.desk) c.is_cancelled.new.desk.reader (c.loop.invariant.heeds limits) c.in-Bytes.ensures.begun (λ b at saw users. (moved.here.stands b at saw users, moved.unended c.if-is_cancelled.false limits b at saw users)) c.in-Bytes.ensures.read.reads s.link.wrote.reads;
       timely = λ b at saw users.
           timely_read (language_for c.args.desk.now.attending.user (arc_value c.args.desk.now.shelf)) (telling g.K.Link.told g.C.Timestamps.told g.C.Timestamps.stamped) (starting (g.K.Link.state c.args.link.now) (g.C.Timestamps.coming c.args.clock.now) b) (g.K.Link.state c.args.link.now) (g.K.Link.state c.loop.link) c.is_cancelled.new.desk.seat.seen c.is_cancelled.new.desk.users.seat.seen (moved.here.timely b at saw users) _ _ _ _ c.in-Bytes.ensures.read
-          (timely_moved arc_value (telling g.K.Link.told g.C.Timestamps.told g.C.Timestamps.stamped) (g.C.Timestamps.coming c.loop.clock) _ _ (in_hand c.is_cancelled.new.desk.attending false More c.is_cancelled.new.desk.reader _) c.args.desk.now.shelf c.is_cancelled.new.desk.shelf c.args.desk.now.seat c.is_cancelled.new.desk.seat c.args.desk.now.users.seat c.is_cancelled.new.desk.users.seat (c.is_cancelled.ensures.shelf ∙ c.loop.invariant.shelf) moved.here.seat_is moved.here.users_are c.serve_piece-progress.ensures.timely c.args.desk.now.attending.user _ _ b at
+          (timely_moved arc_value (telling g.K.Link.told g.C.Timestamps.told g.C.Timestamps.stamped) (g.C.Timestamps.coming c.loop.clock) _ _ (in_hand c.is_cancelled.new.desk.attending false More c.is_cancelled.new.desk.reader _) c.args.desk.now.shelf c.is_cancelled.new.desk.shelf c.args.desk.now.seat c.is_cancelled.new.desk.seat c.args.desk.now.users.seat c.is_cancelled.new.desk.users.seat (c.is_cancelled.ensures.shelf ∙ c.loop.invariant.shelf) moved.here.seat_is moved.here.users_are c.serve_piece.ensures.timely c.args.desk.now.attending.user _ _ b at
           (stands_piece _ _ _ _ _ _ _ _ _ _ _ _ _ _ (moved.here.stands b at saw users) c.in-Bytes.ensures.read (grind (arith, common_steps))))
-          (went_to g.K.Link.told b _ (g.K.Link.state c.serve_piece-progress.new.link) c.is_cancelled.new.desk.seat c.is_cancelled.new.desk.users.seat (moved.here.seat_is.0 ∙ at.0, moved.here.seat_is.1 ∙ at.1, moved.here.users_are.0 ∙ at.2, moved.here.users_are.1 ∙ at.3) c.serve_piece-progress.ensures.link _ _ _ c.serve_piece-progress.ensures.asked);
+          (went_to g.K.Link.told b _ (g.K.Link.state c.serve_piece.new.link) c.is_cancelled.new.desk.seat c.is_cancelled.new.desk.users.seat (moved.here.seat_is.0 ∙ at.0, moved.here.seat_is.1 ∙ at.1, moved.here.users_are.0 ∙ at.2, moved.here.users_are.1 ∙ at.3) c.serve_piece.ensures.link _ _ _ c.serve_piece.ensures.asked);
       end = ((λ is. write_no _ is refl), (λ ended. unheld _ going ended));
       all_read = λ t is. write_no _ is refl;
       read_fault = λ is. write_no _ is refl;
       no_read_fault = λ is. s.link.wrote.read_faults ∙ c.in-Bytes.ensures.read.no_fault (bytes_came _) ∙ c.loop.invariant.faults;
       write_fault = λ is. breaks.rose;
       stopped = λ is. write_no _ is refl;
-      unstopped = λ is. s.unstopped (cut_goes _ c.in-Cut.is) ∙ c.loop.invariant.gate;
-      later = later_behind _ _ _ c.loop.invariant.gate s.later;
+      unstopped = λ is. stayed_ok Cut c.serve_piece.result _ _ (c.in-Ok-Cut.is ∙ ap (λ (p : Progress). Ok p) c.in-Ok-Cut.field-0-is) s.stopped ∙ c.loop.invariant.gate;
+      later = later_behind _ _ _ c.loop.invariant.gate s.stopped.later;
       spent = λ is. write_no _ is refl;
       few = few_more _ _ _ _ _ _ c.loop.invariant.counted c.in-Bytes.ensures.read.reads s.link.wrote.reads c.loop-test.true;
-      asked = are_entered_on g.G.Gate.asked g.G.Gate.asked_on c.args.desk.now.seat c.is_cancelled.new.desk.seat c.args.desk.now.users.seat c.is_cancelled.new.desk.users.seat c.args.gate.now c.loop.gate c.serve_piece-progress.new.gate _ _ moved.here.entered moved.here.seat_is moved.here.users_are s.asked;
-      noted = noted_more (arc_value c.args.desk.now.shelf) (telling g.K.Link.told g.C.Timestamps.told g.C.Timestamps.stamped) g.N.Notes.noted g.N.Notes.noted_on c.args.notes.now c.loop.notes c.serve_piece-progress.new.notes (stood (g.K.Link.state c.args.link.now) (g.C.Timestamps.coming c.args.clock.now) c.args.desk.now.seat c.args.desk.now.users.seat c.args.desk.now.attending) (stood _ (g.C.Timestamps.coming c.loop.clock) c.is_cancelled.new.desk.seat c.is_cancelled.new.desk.users.seat c.is_cancelled.new.desk.attending) (stood (g.K.Link.state c.serve_piece-progress.new.link) (g.C.Timestamps.coming c.serve_piece-progress.new.clock) c.serve_piece-progress.new.desk.seat c.serve_piece-progress.new.desk.users.seat c.serve_piece-progress.new.desk.attending) (noted_read (arc_value c.args.desk.now.shelf) (telling g.K.Link.told g.C.Timestamps.told g.C.Timestamps.stamped) (stood (g.K.Link.state c.args.link.now) (g.C.Timestamps.coming c.args.clock.now) c.args.desk.now.seat c.args.desk.now.users.seat c.args.desk.now.attending) (g.K.Link.state c.loop.link) _ (g.C.Timestamps.coming c.loop.clock) c.is_cancelled.new.desk.seat c.is_cancelled.new.desk.users.seat c.is_cancelled.new.desk.attending (g.N.Notes.noted c.args.notes.now c.loop.notes) _ _ noted_here c.in-Bytes.ensures.read) (noted_moved arc_value (telling g.K.Link.told g.C.Timestamps.told g.C.Timestamps.stamped) (stood _ (g.C.Timestamps.coming c.loop.clock) c.is_cancelled.new.desk.seat c.is_cancelled.new.desk.users.seat c.is_cancelled.new.desk.attending) (stood (g.K.Link.state c.serve_piece-progress.new.link) (g.C.Timestamps.coming c.serve_piece-progress.new.clock) c.serve_piece-progress.new.desk.seat c.serve_piece-progress.new.desk.users.seat c.serve_piece-progress.new.desk.attending) (g.N.Notes.noted c.loop.notes c.serve_piece-progress.new.notes) c.args.desk.now.shelf c.is_cancelled.new.desk.shelf (c.is_cancelled.ensures.shelf ∙ c.loop.invariant.shelf) c.serve_piece-progress.ensures.noted);
+      asked = are_entered_on g.G.Gate.asked g.G.Gate.asked_on c.args.desk.now.seat c.is_cancelled.new.desk.seat c.args.desk.now.users.seat c.is_cancelled.new.desk.users.seat c.args.gate.now c.loop.gate c.serve_piece.new.gate _ _ moved.here.entered moved.here.seat_is moved.here.users_are s.asked;
+      noted = noted_more (arc_value c.args.desk.now.shelf) (telling g.K.Link.told g.C.Timestamps.told g.C.Timestamps.stamped) g.N.Notes.noted g.N.Notes.noted_on c.args.notes.now c.loop.notes c.serve_piece.new.notes (stood (g.K.Link.state c.args.link.now) (g.C.Timestamps.coming c.args.clock.now) c.args.desk.now.seat c.args.desk.now.users.seat c.args.desk.now.attending) (stood _ (g.C.Timestamps.coming c.loop.clock) c.is_cancelled.new.desk.seat c.is_cancelled.new.desk.users.seat c.is_cancelled.new.desk.attending) (stood (g.K.Link.state c.serve_piece.new.link) (g.C.Timestamps.coming c.serve_piece.new.clock) c.serve_piece.new.desk.seat c.serve_piece.new.desk.users.seat c.serve_piece.new.desk.attending) (noted_read (arc_value c.args.desk.now.shelf) (telling g.K.Link.told g.C.Timestamps.told g.C.Timestamps.stamped) (stood (g.K.Link.state c.args.link.now) (g.C.Timestamps.coming c.args.clock.now) c.args.desk.now.seat c.args.desk.now.users.seat c.args.desk.now.attending) (g.K.Link.state c.loop.link) _ (g.C.Timestamps.coming c.loop.clock) c.is_cancelled.new.desk.seat c.is_cancelled.new.desk.users.seat c.is_cancelled.new.desk.attending (g.N.Notes.noted c.args.notes.now c.loop.notes) _ _ noted_here c.in-Bytes.ensures.read) (noted_moved arc_value (telling g.K.Link.told g.C.Timestamps.told g.C.Timestamps.stamped) (stood _ (g.C.Timestamps.coming c.loop.clock) c.is_cancelled.new.desk.seat c.is_cancelled.new.desk.users.seat c.is_cancelled.new.desk.attending) (stood (g.K.Link.state c.serve_piece.new.link) (g.C.Timestamps.coming c.serve_piece.new.clock) c.serve_piece.new.desk.seat c.serve_piece.new.desk.users.seat c.serve_piece.new.desk.attending) (g.N.Notes.noted c.loop.notes c.serve_piece.new.notes) c.args.desk.now.shelf c.is_cancelled.new.desk.shelf (c.is_cancelled.ensures.shelf ∙ c.loop.invariant.shelf) c.serve_piece.ensures.noted);
       unattended = λ is. write_no _ is refl;
       attended = λ endless is. write_no _ is refl;
       alone = λ endless is. write_no _ is refl;
       idle = λ is. write_no _ is refl;
       endless = λ endless is. write_no _ is refl;
-      let_go = λ limits. let_go_behind (c.args.patience ≡ Limited) (language_for c.args.desk.now.attending.user (arc_value c.args.desk.now.shelf)) g.K.Link.begun g.K.Link.told g.C.Timestamps.told (g.K.Link.state c.args.link.now) (g.C.Timestamps.coming c.args.clock.now) c.args.desk.now.seat c.args.desk.now.users.seat (g.K.Link.state c.loop.link) (g.K.Link.state c.serve_piece-progress.new.link) _ (g.C.Timestamps.coming c.loop.clock) (now c.is_cancelled.new.desk) c.is_cancelled.new.desk.reader c.in-Bytes.ensures.begun moved.here.stands c.in-Bytes.ensures.read.reads c.serve_piece-progress.ensures.link.wrote.reads c.loop.counter c.loop.waited (λ limits nobody. c.is_over.ensures.lasts c.if-is_over.false limits (ap (λ (a : Attending). a.user) (sym c.is_cancelled.ensures.attending) ∙ nobody)) c.loop.invariant.waits limits;
-      awake = λ limits. awake_behind (c.args.patience ≡ Limited) ((arc_value c.args.desk.now.shelf).idle) (language_for c.args.desk.now.attending.user (arc_value c.args.desk.now.shelf)) g.K.Link.begun g.K.Link.told g.C.Timestamps.told (g.K.Link.state c.args.link.now) (g.C.Timestamps.coming c.args.clock.now) c.args.desk.now.seat c.args.desk.now.users.seat (g.K.Link.state c.loop.link) (g.K.Link.state c.serve_piece-progress.new.link) _ (g.C.Timestamps.coming c.loop.clock) (now c.is_cancelled.new.desk) c.is_cancelled.new.desk.reader c.in-Bytes.ensures.begun moved.here.stands c.in-Bytes.ensures.read.reads c.serve_piece-progress.ensures.link.wrote.reads c.loop.counter c.loop.silent (subst (λ (i : IdleLimits). IsInTime i c.is_cancelled.new.desk.attending.user c.loop.silent) (c.idle-limits.ensures ∙ ap (λ (s : Contents). s.idle) c.deref.ensures) (subst (λ (a : Attending). IsInTime c.idle-limits.result a.user c.loop.silent) (sym c.is_cancelled.ensures.attending) (c.is_idle.ensures.awake c.if-is_idle.false limits))) idles_here;
+      let_go = λ limits. let_go_behind (c.args.patience ≡ Limited) (language_for c.args.desk.now.attending.user (arc_value c.args.desk.now.shelf)) g.K.Link.begun g.K.Link.told g.C.Timestamps.told (g.K.Link.state c.args.link.now) (g.C.Timestamps.coming c.args.clock.now) c.args.desk.now.seat c.args.desk.now.users.seat (g.K.Link.state c.loop.link) (g.K.Link.state c.serve_piece.new.link) _ (g.C.Timestamps.coming c.loop.clock) (now c.is_cancelled.new.desk) c.is_cancelled.new.desk.reader c.in-Bytes.ensures.begun moved.here.stands c.in-Bytes.ensures.read.reads c.serve_piece.ensures.link.wrote.reads c.loop.counter c.loop.waited (λ limits nobody. c.is_over.ensures.lasts c.if-is_over.false limits (ap (λ (a : Attending). a.user) (sym c.is_cancelled.ensures.attending) ∙ nobody)) c.loop.invariant.waits limits;
+      awake = λ limits. awake_behind (c.args.patience ≡ Limited) ((arc_value c.args.desk.now.shelf).idle) (language_for c.args.desk.now.attending.user (arc_value c.args.desk.now.shelf)) g.K.Link.begun g.K.Link.told g.C.Timestamps.told (g.K.Link.state c.args.link.now) (g.C.Timestamps.coming c.args.clock.now) c.args.desk.now.seat c.args.desk.now.users.seat (g.K.Link.state c.loop.link) (g.K.Link.state c.serve_piece.new.link) _ (g.C.Timestamps.coming c.loop.clock) (now c.is_cancelled.new.desk) c.is_cancelled.new.desk.reader c.in-Bytes.ensures.begun moved.here.stands c.in-Bytes.ensures.read.reads c.serve_piece.ensures.link.wrote.reads c.loop.counter c.loop.silent (subst (λ (i : IdleLimits). IsInTime i c.is_cancelled.new.desk.attending.user c.loop.silent) (c.idle-limits.ensures ∙ ap (λ (s : Contents). s.idle) c.deref.ensures) (subst (λ (a : Attending). IsInTime c.idle-limits.result a.user c.loop.silent) (sym c.is_cancelled.ensures.attending) (c.is_idle.ensures.awake c.if-is_idle.false limits))) idles_here;
     }
 
-pub returns-in-Stopped : goal.returns-in-Stopped
-returns-in-Stopped g c =
+pub returns-in-Err : goal.returns-in-Err
+returns-in-Err g c =
     let moved = looked (language_for c.args.desk.now.attending.user (arc_value c.args.desk.now.shelf)) (telling g.K.Link.told g.C.Timestamps.told g.C.Timestamps.stamped) g.G.Gate.asked g.G.Gate.asked_on g.G.Gate.unasked (g.K.Link.state c.args.link.now) (g.K.Link.state c.loop.link) (g.C.Timestamps.coming c.args.clock.now) (g.C.Timestamps.coming c.loop.clock) c.args.desk.now.seat c.args.desk.now.users.seat c.args.gate.now c.loop.gate c.args.patience c.is_cancelled.result c.loop.desk.seat c.loop.desk.users.seat c.is_cancelled.new.desk.users.seat c.loop.desk.attending c.loop.desk.reader (record { seat_is = c.loop.invariant.seat; users_are = c.loop.invariant.users; stands = c.loop.invariant.stands; timely = c.loop.invariant.timely; entered = c.loop.invariant.asked }) c.is_cancelled.ensures.users c.is_cancelled.ensures.heeded c.is_cancelled.new.desk.seat c.is_cancelled.new.desk.attending c.is_cancelled.new.desk.reader c.is_cancelled.ensures.seat c.is_cancelled.ensures.attending c.is_cancelled.ensures.reader in
     let idles_here = subst (λ (a : Attending). Idles (c.args.patience ≡ Limited) ((arc_value c.args.desk.now.shelf).idle) (language_for c.args.desk.now.attending.user (arc_value c.args.desk.now.shelf)) g.K.Link.begun g.K.Link.told g.C.Timestamps.told (g.K.Link.state c.args.link.now) (g.C.Timestamps.coming c.args.clock.now) c.args.desk.now.seat c.args.desk.now.users.seat (g.K.Link.state c.loop.link) a.user c.loop.counter c.loop.silent) (sym c.is_cancelled.ensures.attending) c.loop.invariant.idles in
     let noted_here = noted_beside (arc_value c.args.desk.now.shelf) (telling g.K.Link.told g.C.Timestamps.told g.C.Timestamps.stamped) (stood (g.K.Link.state c.args.link.now) (g.C.Timestamps.coming c.args.clock.now) c.args.desk.now.seat c.args.desk.now.users.seat c.args.desk.now.attending) (stood (g.K.Link.state c.loop.link) (g.C.Timestamps.coming c.loop.clock) c.loop.desk.seat c.loop.desk.users.seat c.loop.desk.attending) (stood (g.K.Link.state c.loop.link) (g.C.Timestamps.coming c.loop.clock) c.is_cancelled.new.desk.seat c.is_cancelled.new.desk.users.seat c.is_cancelled.new.desk.attending) (g.N.Notes.noted c.args.notes.now c.loop.notes) c.loop.invariant.noted (beside_look g.K.Link.told (g.K.Link.state c.loop.link) (g.C.Timestamps.coming c.loop.clock) c.args.patience c.is_cancelled.result c.loop.desk.seat c.is_cancelled.new.desk.seat c.loop.desk.users.seat c.is_cancelled.new.desk.users.seat c.loop.desk.attending c.is_cancelled.new.desk.attending c.is_cancelled.ensures.seat c.is_cancelled.ensures.users c.is_cancelled.ensures.heeded c.is_cancelled.ensures.attending) in
@@ -108,40 +110,40 @@ returns-in-Stopped g c =
     let p = c.seen-2.ensures.history in
     let seat = c.args.desk.now.seat in
     let b : Beginning = record { opening = seat.opening; users = c.args.desk.now.users.seat.opening; place = seat.place; before = h.0; users_before = p.0 } in
-    let s = c.serve_piece-progress.ensures in
-    let going : (g.K.Link.state c.serve_piece-progress.new.link).ended ≡ false = s.link.wrote.ended ∙ c.in-Bytes.ensures.read.ended in
+    let s = c.serve_piece.ensures in
+    let going : (g.K.Link.state c.serve_piece.new.link).ended ≡ false = s.link.wrote.ended ∙ c.in-Bytes.ensures.read.ended in
     record {
       shelf = s.shelf ∙ (c.is_cancelled.ensures.shelf ∙ c.loop.invariant.shelf);
       seat = (s.seat.0 ∙ moved.here.seat_is.0, s.seat.1 ∙ moved.here.seat_is.1, s.seat.2 ∙ moved.here.seat_is.2, s.seat.3 ∙ moved.here.seat_is.3);
       users = (s.users.0 ∙ moved.here.users_are.0, s.users.1 ∙ moved.here.users_are.1, s.users.2 ∙ moved.here.users_are.2, s.users.3 ∙ moved.here.users_are.3);
-      session = record { before = h.0; users_before = p.0; saw = h.1; users_saw = p.1; attending = _; session = goes_stopped_is _ _ _ _ _ _ _ _ _ _ _ _ _ c.in-Stopped.is (moved_goes arc_value c.args.desk.now.attending.user g.K.Link.told g.C.Timestamps.told _ (g.K.Link.state c.serve_piece-progress.new.link) (g.C.Timestamps.coming c.loop.clock) (g.C.Timestamps.coming c.serve_piece-progress.new.clock) (now c.is_cancelled.new.desk) (now c.serve_piece-progress.new.desk) false c.is_cancelled.new.desk.reader c.serve_piece-progress.new.desk.reader c.serve_piece-progress.result c.args.desk.now.shelf c.is_cancelled.new.desk.shelf c.args.desk.now.seat c.is_cancelled.new.desk.seat c.args.desk.now.users.seat c.is_cancelled.new.desk.users.seat _ [] (c.is_cancelled.ensures.shelf ∙ c.loop.invariant.shelf) moved.here.seat_is moved.here.users_are (c.serve_piece-progress.ensures.goes c.args.desk.now.attending.user) _ _ b (refl, refl, refl, c.args.desk.now.same_place) (stands_piece _ _ _ _ _ _ _ _ _ _ _ _ _ _ (moved.here.stands b (refl, refl, refl, c.args.desk.now.same_place) h.1 p.1) c.in-Bytes.ensures.read (grind (arith, common_steps)))) };
-      prompt = prompt_more (language_for c.args.desk.now.attending.user (arc_value c.args.desk.now.shelf)) g.K.Link.begun g.K.Link.told g.C.Timestamps.told (g.K.Link.state c.args.link.now) (g.C.Timestamps.coming c.args.clock.now) c.args.desk.now.seat c.args.desk.now.users.seat (g.K.Link.state c.loop.link) (g.K.Link.state c.serve_piece-progress.new.link) _ (g.C.Timestamps.coming c.loop.clock) (now c.is_cancelled.new.desk) c.is_cancelled.new.desk.reader c.loop.invariant.prompt c.in-Bytes.ensures.begun moved.here.stands c.in-Bytes.ensures.read.reads s.link.wrote.reads;
-      heeds = λ limits. heeds_more (language_for c.args.desk.now.attending.user (arc_value c.args.desk.now.shelf)) g.K.Link.begun g.K.Link.told g.C.Timestamps.told (g.K.Link.state c.args.link.now) (g.C.Timestamps.coming c.args.clock.now) c.args.desk.now.seat c.args.desk.now.users.seat (g.K.Link.state c.loop.link) (g.K.Link.state c.serve_piece-progress.new.link) _ (g.C.Timestamps.coming c.loop.clock) (now c.is_cancelled.new.desk) c.is_cancelled.new.desk.reader (c.loop.invariant.heeds limits) c.in-Bytes.ensures.begun (λ b at saw users. (moved.here.stands b at saw users, moved.unended c.if-is_cancelled.false limits b at saw users)) c.in-Bytes.ensures.read.reads s.link.wrote.reads;
+      session = record { before = h.0; users_before = p.0; saw = h.1; users_saw = p.1; attending = _; session = goes_stopped_is _ _ _ _ _ _ _ _ _ _ _ _ _ _ c.in-Err.is (moved_goes arc_value c.args.desk.now.attending.user g.K.Link.told g.C.Timestamps.told _ (g.K.Link.state c.serve_piece.new.link) (g.C.Timestamps.coming c.loop.clock) (g.C.Timestamps.coming c.serve_piece.new.clock) (now c.is_cancelled.new.desk) (now c.serve_piece.new.desk) false c.is_cancelled.new.desk.reader c.serve_piece.new.desk.reader c.serve_piece.result c.args.desk.now.shelf c.is_cancelled.new.desk.shelf c.args.desk.now.seat c.is_cancelled.new.desk.seat c.args.desk.now.users.seat c.is_cancelled.new.desk.users.seat _ [] (c.is_cancelled.ensures.shelf ∙ c.loop.invariant.shelf) moved.here.seat_is moved.here.users_are (c.serve_piece.ensures.goes c.args.desk.now.attending.user) _ _ b (refl, refl, refl, c.args.desk.now.same_place) (stands_piece _ _ _ _ _ _ _ _ _ _ _ _ _ _ (moved.here.stands b (refl, refl, refl, c.args.desk.now.same_place) h.1 p.1) c.in-Bytes.ensures.read (grind (arith, common_steps)))) };
+      prompt = prompt_more (language_for c.args.desk.now.attending.user (arc_value c.args.desk.now.shelf)) g.K.Link.begun g.K.Link.told g.C.Timestamps.told (g.K.Link.state c.args.link.now) (g.C.Timestamps.coming c.args.clock.now) c.args.desk.now.seat c.args.desk.now.users.seat (g.K.Link.state c.loop.link) (g.K.Link.state c.serve_piece.new.link) _ (g.C.Timestamps.coming c.loop.clock) (now c.is_cancelled.new.desk) c.is_cancelled.new.desk.reader c.loop.invariant.prompt c.in-Bytes.ensures.begun moved.here.stands c.in-Bytes.ensures.read.reads s.link.wrote.reads;
+      heeds = λ limits. heeds_more (language_for c.args.desk.now.attending.user (arc_value c.args.desk.now.shelf)) g.K.Link.begun g.K.Link.told g.C.Timestamps.told (g.K.Link.state c.args.link.now) (g.C.Timestamps.coming c.args.clock.now) c.args.desk.now.seat c.args.desk.now.users.seat (g.K.Link.state c.loop.link) (g.K.Link.state c.serve_piece.new.link) _ (g.C.Timestamps.coming c.loop.clock) (now c.is_cancelled.new.desk) c.is_cancelled.new.desk.reader (c.loop.invariant.heeds limits) c.in-Bytes.ensures.begun (λ b at saw users. (moved.here.stands b at saw users, moved.unended c.if-is_cancelled.false limits b at saw users)) c.in-Bytes.ensures.read.reads s.link.wrote.reads;
       timely = λ b at saw users.
           timely_read (language_for c.args.desk.now.attending.user (arc_value c.args.desk.now.shelf)) (telling g.K.Link.told g.C.Timestamps.told g.C.Timestamps.stamped) (starting (g.K.Link.state c.args.link.now) (g.C.Timestamps.coming c.args.clock.now) b) (g.K.Link.state c.args.link.now) (g.K.Link.state c.loop.link) c.is_cancelled.new.desk.seat.seen c.is_cancelled.new.desk.users.seat.seen (moved.here.timely b at saw users) _ _ _ _ c.in-Bytes.ensures.read
-          (timely_moved arc_value (telling g.K.Link.told g.C.Timestamps.told g.C.Timestamps.stamped) (g.C.Timestamps.coming c.loop.clock) _ _ (in_hand c.is_cancelled.new.desk.attending false More c.is_cancelled.new.desk.reader _) c.args.desk.now.shelf c.is_cancelled.new.desk.shelf c.args.desk.now.seat c.is_cancelled.new.desk.seat c.args.desk.now.users.seat c.is_cancelled.new.desk.users.seat (c.is_cancelled.ensures.shelf ∙ c.loop.invariant.shelf) moved.here.seat_is moved.here.users_are c.serve_piece-progress.ensures.timely c.args.desk.now.attending.user _ _ b at
+          (timely_moved arc_value (telling g.K.Link.told g.C.Timestamps.told g.C.Timestamps.stamped) (g.C.Timestamps.coming c.loop.clock) _ _ (in_hand c.is_cancelled.new.desk.attending false More c.is_cancelled.new.desk.reader _) c.args.desk.now.shelf c.is_cancelled.new.desk.shelf c.args.desk.now.seat c.is_cancelled.new.desk.seat c.args.desk.now.users.seat c.is_cancelled.new.desk.users.seat (c.is_cancelled.ensures.shelf ∙ c.loop.invariant.shelf) moved.here.seat_is moved.here.users_are c.serve_piece.ensures.timely c.args.desk.now.attending.user _ _ b at
           (stands_piece _ _ _ _ _ _ _ _ _ _ _ _ _ _ (moved.here.stands b at saw users) c.in-Bytes.ensures.read (grind (arith, common_steps))))
-          (went_to g.K.Link.told b _ (g.K.Link.state c.serve_piece-progress.new.link) c.is_cancelled.new.desk.seat c.is_cancelled.new.desk.users.seat (moved.here.seat_is.0 ∙ at.0, moved.here.seat_is.1 ∙ at.1, moved.here.users_are.0 ∙ at.2, moved.here.users_are.1 ∙ at.3) c.serve_piece-progress.ensures.link _ _ _ c.serve_piece-progress.ensures.asked);
+          (went_to g.K.Link.told b _ (g.K.Link.state c.serve_piece.new.link) c.is_cancelled.new.desk.seat c.is_cancelled.new.desk.users.seat (moved.here.seat_is.0 ∙ at.0, moved.here.seat_is.1 ∙ at.1, moved.here.users_are.0 ∙ at.2, moved.here.users_are.1 ∙ at.3) c.serve_piece.ensures.link _ _ _ c.serve_piece.ensures.asked);
       hung_up = s.hung_up ∙ c.in-Bytes.ensures.hung_up ∙ c.loop.invariant.hung_up;
       end = ((λ is. stop_no _ is refl), (λ ended. unheld _ going ended));
       all_read = λ t is. stop_no _ is refl;
       read_fault = λ is. stop_no _ is refl;
       no_read_fault = λ is. s.link.wrote.read_faults ∙ c.in-Bytes.ensures.read.no_fault (bytes_came _) ∙ c.loop.invariant.faults;
       write_fault = λ is. stop_no _ is refl;
-      stopped = λ is. rose_behind _ _ _ c.loop.invariant.gate (s.stopped c.in-Stopped.is);
+      stopped = λ is. rose_behind _ _ _ c.loop.invariant.gate (s.stopped.cause (subst (λ (r : Result Progress Stopped). IsErr r) (sym c.in-Err.is) refl));
       unstopped = λ not. absurd (not refl);
-      later = later_behind _ _ _ c.loop.invariant.gate s.later;
+      later = later_behind _ _ _ c.loop.invariant.gate s.stopped.later;
       spent = λ is. stop_no _ is refl;
       few = few_more _ _ _ _ _ _ c.loop.invariant.counted c.in-Bytes.ensures.read.reads s.link.wrote.reads c.loop-test.true;
-      asked = are_entered_on g.G.Gate.asked g.G.Gate.asked_on c.args.desk.now.seat c.is_cancelled.new.desk.seat c.args.desk.now.users.seat c.is_cancelled.new.desk.users.seat c.args.gate.now c.loop.gate c.serve_piece-progress.new.gate _ _ moved.here.entered moved.here.seat_is moved.here.users_are s.asked;
-      noted = noted_more (arc_value c.args.desk.now.shelf) (telling g.K.Link.told g.C.Timestamps.told g.C.Timestamps.stamped) g.N.Notes.noted g.N.Notes.noted_on c.args.notes.now c.loop.notes c.serve_piece-progress.new.notes (stood (g.K.Link.state c.args.link.now) (g.C.Timestamps.coming c.args.clock.now) c.args.desk.now.seat c.args.desk.now.users.seat c.args.desk.now.attending) (stood _ (g.C.Timestamps.coming c.loop.clock) c.is_cancelled.new.desk.seat c.is_cancelled.new.desk.users.seat c.is_cancelled.new.desk.attending) (stood (g.K.Link.state c.serve_piece-progress.new.link) (g.C.Timestamps.coming c.serve_piece-progress.new.clock) c.serve_piece-progress.new.desk.seat c.serve_piece-progress.new.desk.users.seat c.serve_piece-progress.new.desk.attending) (noted_read (arc_value c.args.desk.now.shelf) (telling g.K.Link.told g.C.Timestamps.told g.C.Timestamps.stamped) (stood (g.K.Link.state c.args.link.now) (g.C.Timestamps.coming c.args.clock.now) c.args.desk.now.seat c.args.desk.now.users.seat c.args.desk.now.attending) (g.K.Link.state c.loop.link) _ (g.C.Timestamps.coming c.loop.clock) c.is_cancelled.new.desk.seat c.is_cancelled.new.desk.users.seat c.is_cancelled.new.desk.attending (g.N.Notes.noted c.args.notes.now c.loop.notes) _ _ noted_here c.in-Bytes.ensures.read) (noted_moved arc_value (telling g.K.Link.told g.C.Timestamps.told g.C.Timestamps.stamped) (stood _ (g.C.Timestamps.coming c.loop.clock) c.is_cancelled.new.desk.seat c.is_cancelled.new.desk.users.seat c.is_cancelled.new.desk.attending) (stood (g.K.Link.state c.serve_piece-progress.new.link) (g.C.Timestamps.coming c.serve_piece-progress.new.clock) c.serve_piece-progress.new.desk.seat c.serve_piece-progress.new.desk.users.seat c.serve_piece-progress.new.desk.attending) (g.N.Notes.noted c.loop.notes c.serve_piece-progress.new.notes) c.args.desk.now.shelf c.is_cancelled.new.desk.shelf (c.is_cancelled.ensures.shelf ∙ c.loop.invariant.shelf) c.serve_piece-progress.ensures.noted);
+      asked = are_entered_on g.G.Gate.asked g.G.Gate.asked_on c.args.desk.now.seat c.is_cancelled.new.desk.seat c.args.desk.now.users.seat c.is_cancelled.new.desk.users.seat c.args.gate.now c.loop.gate c.serve_piece.new.gate _ _ moved.here.entered moved.here.seat_is moved.here.users_are s.asked;
+      noted = noted_more (arc_value c.args.desk.now.shelf) (telling g.K.Link.told g.C.Timestamps.told g.C.Timestamps.stamped) g.N.Notes.noted g.N.Notes.noted_on c.args.notes.now c.loop.notes c.serve_piece.new.notes (stood (g.K.Link.state c.args.link.now) (g.C.Timestamps.coming c.args.clock.now) c.args.desk.now.seat c.args.desk.now.users.seat c.args.desk.now.attending) (stood _ (g.C.Timestamps.coming c.loop.clock) c.is_cancelled.new.desk.seat c.is_cancelled.new.desk.users.seat c.is_cancelled.new.desk.attending) (stood (g.K.Link.state c.serve_piece.new.link) (g.C.Timestamps.coming c.serve_piece.new.clock) c.serve_piece.new.desk.seat c.serve_piece.new.desk.users.seat c.serve_piece.new.desk.attending) (noted_read (arc_value c.args.desk.now.shelf) (telling g.K.Link.told g.C.Timestamps.told g.C.Timestamps.stamped) (stood (g.K.Link.state c.args.link.now) (g.C.Timestamps.coming c.args.clock.now) c.args.desk.now.seat c.args.desk.now.users.seat c.args.desk.now.attending) (g.K.Link.state c.loop.link) _ (g.C.Timestamps.coming c.loop.clock) c.is_cancelled.new.desk.seat c.is_cancelled.new.desk.users.seat c.is_cancelled.new.desk.attending (g.N.Notes.noted c.args.notes.now c.loop.notes) _ _ noted_here c.in-Bytes.ensures.read) (noted_moved arc_value (telling g.K.Link.told g.C.Timestamps.told g.C.Timestamps.stamped) (stood _ (g.C.Timestamps.coming c.loop.clock) c.is_cancelled.new.desk.seat c.is_cancelled.new.desk.users.seat c.is_cancelled.new.desk.attending) (stood (g.K.Link.state c.serve_piece.new.link) (g.C.Timestamps.coming c.serve_piece.new.clock) c.serve_piece.new.desk.seat c.serve_piece.new.desk.users.seat c.serve_piece.new.desk.attending) (g.N.Notes.noted c.loop.notes c.serve_piece.new.notes) c.args.desk.now.shelf c.is_cancelled.new.desk.shelf (c.is_cancelled.ensures.shelf ∙ c.loop.invariant.shelf) c.serve_piece.ensures.noted);
       unattended = λ is. stop_no _ is refl;
       attended = λ endless is. stop_no _ is refl;
       alone = λ endless is. stop_no _ is refl;
       idle = λ is. stop_no _ is refl;
       endless = λ endless is. stop_no _ is refl;
-      let_go = λ limits. let_go_behind (c.args.patience ≡ Limited) (language_for c.args.desk.now.attending.user (arc_value c.args.desk.now.shelf)) g.K.Link.begun g.K.Link.told g.C.Timestamps.told (g.K.Link.state c.args.link.now) (g.C.Timestamps.coming c.args.clock.now) c.args.desk.now.seat c.args.desk.now.users.seat (g.K.Link.state c.loop.link) (g.K.Link.state c.serve_piece-progress.new.link) _ (g.C.Timestamps.coming c.loop.clock) (now c.is_cancelled.new.desk) c.is_cancelled.new.desk.reader c.in-Bytes.ensures.begun moved.here.stands c.in-Bytes.ensures.read.reads c.serve_piece-progress.ensures.link.wrote.reads c.loop.counter c.loop.waited (λ limits nobody. c.is_over.ensures.lasts c.if-is_over.false limits (ap (λ (a : Attending). a.user) (sym c.is_cancelled.ensures.attending) ∙ nobody)) c.loop.invariant.waits limits;
-      awake = λ limits. awake_behind (c.args.patience ≡ Limited) ((arc_value c.args.desk.now.shelf).idle) (language_for c.args.desk.now.attending.user (arc_value c.args.desk.now.shelf)) g.K.Link.begun g.K.Link.told g.C.Timestamps.told (g.K.Link.state c.args.link.now) (g.C.Timestamps.coming c.args.clock.now) c.args.desk.now.seat c.args.desk.now.users.seat (g.K.Link.state c.loop.link) (g.K.Link.state c.serve_piece-progress.new.link) _ (g.C.Timestamps.coming c.loop.clock) (now c.is_cancelled.new.desk) c.is_cancelled.new.desk.reader c.in-Bytes.ensures.begun moved.here.stands c.in-Bytes.ensures.read.reads c.serve_piece-progress.ensures.link.wrote.reads c.loop.counter c.loop.silent (subst (λ (i : IdleLimits). IsInTime i c.is_cancelled.new.desk.attending.user c.loop.silent) (c.idle-limits.ensures ∙ ap (λ (s : Contents). s.idle) c.deref.ensures) (subst (λ (a : Attending). IsInTime c.idle-limits.result a.user c.loop.silent) (sym c.is_cancelled.ensures.attending) (c.is_idle.ensures.awake c.if-is_idle.false limits))) idles_here;
+      let_go = λ limits. let_go_behind (c.args.patience ≡ Limited) (language_for c.args.desk.now.attending.user (arc_value c.args.desk.now.shelf)) g.K.Link.begun g.K.Link.told g.C.Timestamps.told (g.K.Link.state c.args.link.now) (g.C.Timestamps.coming c.args.clock.now) c.args.desk.now.seat c.args.desk.now.users.seat (g.K.Link.state c.loop.link) (g.K.Link.state c.serve_piece.new.link) _ (g.C.Timestamps.coming c.loop.clock) (now c.is_cancelled.new.desk) c.is_cancelled.new.desk.reader c.in-Bytes.ensures.begun moved.here.stands c.in-Bytes.ensures.read.reads c.serve_piece.ensures.link.wrote.reads c.loop.counter c.loop.waited (λ limits nobody. c.is_over.ensures.lasts c.if-is_over.false limits (ap (λ (a : Attending). a.user) (sym c.is_cancelled.ensures.attending) ∙ nobody)) c.loop.invariant.waits limits;
+      awake = λ limits. awake_behind (c.args.patience ≡ Limited) ((arc_value c.args.desk.now.shelf).idle) (language_for c.args.desk.now.attending.user (arc_value c.args.desk.now.shelf)) g.K.Link.begun g.K.Link.told g.C.Timestamps.told (g.K.Link.state c.args.link.now) (g.C.Timestamps.coming c.args.clock.now) c.args.desk.now.seat c.args.desk.now.users.seat (g.K.Link.state c.loop.link) (g.K.Link.state c.serve_piece.new.link) _ (g.C.Timestamps.coming c.loop.clock) (now c.is_cancelled.new.desk) c.is_cancelled.new.desk.reader c.in-Bytes.ensures.begun moved.here.stands c.in-Bytes.ensures.read.reads c.serve_piece.ensures.link.wrote.reads c.loop.counter c.loop.silent (subst (λ (i : IdleLimits). IsInTime i c.is_cancelled.new.desk.attending.user c.loop.silent) (c.idle-limits.ensures ∙ ap (λ (s : Contents). s.idle) c.deref.ensures) (subst (λ (a : Attending). IsInTime c.idle-limits.result a.user c.loop.silent) (sym c.is_cancelled.ensures.attending) (c.is_idle.ensures.awake c.if-is_idle.false limits))) idles_here;
     }
 
 pub returns-in-End : goal.returns-in-End
@@ -238,36 +240,36 @@ loop-preserved g c =
     let idles_here = subst (λ (a : Attending). Idles (c.args.patience ≡ Limited) ((arc_value c.args.desk.now.shelf).idle) (language_for c.args.desk.now.attending.user (arc_value c.args.desk.now.shelf)) g.K.Link.begun g.K.Link.told g.C.Timestamps.told (g.K.Link.state c.args.link.now) (g.C.Timestamps.coming c.args.clock.now) c.args.desk.now.seat c.args.desk.now.users.seat (g.K.Link.state c.loop.link) a.user c.loop.counter c.loop.silent) (sym c.is_cancelled.ensures.attending) c.loop.invariant.idles in
     let noted_here = noted_beside (arc_value c.args.desk.now.shelf) (telling g.K.Link.told g.C.Timestamps.told g.C.Timestamps.stamped) (stood (g.K.Link.state c.args.link.now) (g.C.Timestamps.coming c.args.clock.now) c.args.desk.now.seat c.args.desk.now.users.seat c.args.desk.now.attending) (stood (g.K.Link.state c.loop.link) (g.C.Timestamps.coming c.loop.clock) c.loop.desk.seat c.loop.desk.users.seat c.loop.desk.attending) (stood (g.K.Link.state c.loop.link) (g.C.Timestamps.coming c.loop.clock) c.is_cancelled.new.desk.seat c.is_cancelled.new.desk.users.seat c.is_cancelled.new.desk.attending) (g.N.Notes.noted c.args.notes.now c.loop.notes) c.loop.invariant.noted (beside_look g.K.Link.told (g.K.Link.state c.loop.link) (g.C.Timestamps.coming c.loop.clock) c.args.patience c.is_cancelled.result c.loop.desk.seat c.is_cancelled.new.desk.seat c.loop.desk.users.seat c.is_cancelled.new.desk.users.seat c.loop.desk.attending c.is_cancelled.new.desk.attending c.is_cancelled.ensures.seat c.is_cancelled.ensures.users c.is_cancelled.ensures.heeded c.is_cancelled.ensures.attending) in
     elim c.match-read.branch [
-      | in-Bytes+in-On w ↦ rw (w.desk-is, w.link-is, w.clock-is, w.gate-is, w.notes-is) (record {
-        shelf = w.serve_piece-progress.ensures.shelf ∙ (c.is_cancelled.ensures.shelf ∙ c.loop.invariant.shelf);
-        seat = (w.serve_piece-progress.ensures.seat.0 ∙ moved.here.seat_is.0, w.serve_piece-progress.ensures.seat.1 ∙ moved.here.seat_is.1, w.serve_piece-progress.ensures.seat.2 ∙ moved.here.seat_is.2, w.serve_piece-progress.ensures.seat.3 ∙ moved.here.seat_is.3);
-        users = (w.serve_piece-progress.ensures.users.0 ∙ moved.here.users_are.0, w.serve_piece-progress.ensures.users.1 ∙ moved.here.users_are.1, w.serve_piece-progress.ensures.users.2 ∙ moved.here.users_are.2, w.serve_piece-progress.ensures.users.3 ∙ moved.here.users_are.3);
-        stands = λ b at saw users. goes_on_is _ _ _ _ _ _ _ _ _ _ _ _ w.in-On.is (moved_goes arc_value c.args.desk.now.attending.user g.K.Link.told g.C.Timestamps.told _ (g.K.Link.state w.serve_piece-progress.new.link) (g.C.Timestamps.coming c.loop.clock) (g.C.Timestamps.coming w.serve_piece-progress.new.clock) (now c.is_cancelled.new.desk) (now w.serve_piece-progress.new.desk) false c.is_cancelled.new.desk.reader w.serve_piece-progress.new.desk.reader w.serve_piece-progress.result c.args.desk.now.shelf c.is_cancelled.new.desk.shelf c.args.desk.now.seat c.is_cancelled.new.desk.seat c.args.desk.now.users.seat c.is_cancelled.new.desk.users.seat _ [] (c.is_cancelled.ensures.shelf ∙ c.loop.invariant.shelf) moved.here.seat_is moved.here.users_are (w.serve_piece-progress.ensures.goes c.args.desk.now.attending.user) _ _ b at (stands_piece _ _ _ _ _ _ _ _ _ _ _ _ _ _ (moved.here.stands b at saw users) w.in-Bytes.ensures.read (grind (arith, common_steps))));
-        prompt = prompt_more (language_for c.args.desk.now.attending.user (arc_value c.args.desk.now.shelf)) g.K.Link.begun g.K.Link.told g.C.Timestamps.told (g.K.Link.state c.args.link.now) (g.C.Timestamps.coming c.args.clock.now) c.args.desk.now.seat c.args.desk.now.users.seat (g.K.Link.state c.loop.link) (g.K.Link.state w.serve_piece-progress.new.link) _ (g.C.Timestamps.coming c.loop.clock) (now c.is_cancelled.new.desk) c.is_cancelled.new.desk.reader c.loop.invariant.prompt w.in-Bytes.ensures.begun moved.here.stands w.in-Bytes.ensures.read.reads w.serve_piece-progress.ensures.link.wrote.reads;
-        heeds = λ limits. heeds_more (language_for c.args.desk.now.attending.user (arc_value c.args.desk.now.shelf)) g.K.Link.begun g.K.Link.told g.C.Timestamps.told (g.K.Link.state c.args.link.now) (g.C.Timestamps.coming c.args.clock.now) c.args.desk.now.seat c.args.desk.now.users.seat (g.K.Link.state c.loop.link) (g.K.Link.state w.serve_piece-progress.new.link) _ (g.C.Timestamps.coming c.loop.clock) (now c.is_cancelled.new.desk) c.is_cancelled.new.desk.reader (c.loop.invariant.heeds limits) w.in-Bytes.ensures.begun (λ b at saw users. (moved.here.stands b at saw users, moved.unended c.if-is_cancelled.false limits b at saw users)) w.in-Bytes.ensures.read.reads w.serve_piece-progress.ensures.link.wrote.reads;
+      | in-Bytes+in-Ok-On w ↦ rw (w.desk-is, w.link-is, w.clock-is, w.gate-is, w.notes-is) (record {
+        shelf = w.serve_piece.ensures.shelf ∙ (c.is_cancelled.ensures.shelf ∙ c.loop.invariant.shelf);
+        seat = (w.serve_piece.ensures.seat.0 ∙ moved.here.seat_is.0, w.serve_piece.ensures.seat.1 ∙ moved.here.seat_is.1, w.serve_piece.ensures.seat.2 ∙ moved.here.seat_is.2, w.serve_piece.ensures.seat.3 ∙ moved.here.seat_is.3);
+        users = (w.serve_piece.ensures.users.0 ∙ moved.here.users_are.0, w.serve_piece.ensures.users.1 ∙ moved.here.users_are.1, w.serve_piece.ensures.users.2 ∙ moved.here.users_are.2, w.serve_piece.ensures.users.3 ∙ moved.here.users_are.3);
+        stands = λ b at saw users. goes_on_is _ _ _ _ _ _ _ _ _ _ _ _ (w.in-Ok-On.is ∙ ap (λ (p : Progress). Ok p) w.in-Ok-On.field-0-is) (moved_goes arc_value c.args.desk.now.attending.user g.K.Link.told g.C.Timestamps.told _ (g.K.Link.state w.serve_piece.new.link) (g.C.Timestamps.coming c.loop.clock) (g.C.Timestamps.coming w.serve_piece.new.clock) (now c.is_cancelled.new.desk) (now w.serve_piece.new.desk) false c.is_cancelled.new.desk.reader w.serve_piece.new.desk.reader w.serve_piece.result c.args.desk.now.shelf c.is_cancelled.new.desk.shelf c.args.desk.now.seat c.is_cancelled.new.desk.seat c.args.desk.now.users.seat c.is_cancelled.new.desk.users.seat _ [] (c.is_cancelled.ensures.shelf ∙ c.loop.invariant.shelf) moved.here.seat_is moved.here.users_are (w.serve_piece.ensures.goes c.args.desk.now.attending.user) _ _ b at (stands_piece _ _ _ _ _ _ _ _ _ _ _ _ _ _ (moved.here.stands b at saw users) w.in-Bytes.ensures.read (grind (arith, common_steps))));
+        prompt = prompt_more (language_for c.args.desk.now.attending.user (arc_value c.args.desk.now.shelf)) g.K.Link.begun g.K.Link.told g.C.Timestamps.told (g.K.Link.state c.args.link.now) (g.C.Timestamps.coming c.args.clock.now) c.args.desk.now.seat c.args.desk.now.users.seat (g.K.Link.state c.loop.link) (g.K.Link.state w.serve_piece.new.link) _ (g.C.Timestamps.coming c.loop.clock) (now c.is_cancelled.new.desk) c.is_cancelled.new.desk.reader c.loop.invariant.prompt w.in-Bytes.ensures.begun moved.here.stands w.in-Bytes.ensures.read.reads w.serve_piece.ensures.link.wrote.reads;
+        heeds = λ limits. heeds_more (language_for c.args.desk.now.attending.user (arc_value c.args.desk.now.shelf)) g.K.Link.begun g.K.Link.told g.C.Timestamps.told (g.K.Link.state c.args.link.now) (g.C.Timestamps.coming c.args.clock.now) c.args.desk.now.seat c.args.desk.now.users.seat (g.K.Link.state c.loop.link) (g.K.Link.state w.serve_piece.new.link) _ (g.C.Timestamps.coming c.loop.clock) (now c.is_cancelled.new.desk) c.is_cancelled.new.desk.reader (c.loop.invariant.heeds limits) w.in-Bytes.ensures.begun (λ b at saw users. (moved.here.stands b at saw users, moved.unended c.if-is_cancelled.false limits b at saw users)) w.in-Bytes.ensures.read.reads w.serve_piece.ensures.link.wrote.reads;
         timely = λ b at saw users.
             timely_read (language_for c.args.desk.now.attending.user (arc_value c.args.desk.now.shelf)) (telling g.K.Link.told g.C.Timestamps.told g.C.Timestamps.stamped) (starting (g.K.Link.state c.args.link.now) (g.C.Timestamps.coming c.args.clock.now) b) (g.K.Link.state c.args.link.now) (g.K.Link.state c.loop.link) c.is_cancelled.new.desk.seat.seen c.is_cancelled.new.desk.users.seat.seen (moved.here.timely b at saw users) _ _ _ _ w.in-Bytes.ensures.read
-            (timely_moved arc_value (telling g.K.Link.told g.C.Timestamps.told g.C.Timestamps.stamped) (g.C.Timestamps.coming c.loop.clock) _ _ (in_hand c.is_cancelled.new.desk.attending false More c.is_cancelled.new.desk.reader _) c.args.desk.now.shelf c.is_cancelled.new.desk.shelf c.args.desk.now.seat c.is_cancelled.new.desk.seat c.args.desk.now.users.seat c.is_cancelled.new.desk.users.seat (c.is_cancelled.ensures.shelf ∙ c.loop.invariant.shelf) moved.here.seat_is moved.here.users_are w.serve_piece-progress.ensures.timely c.args.desk.now.attending.user _ _ b at
+            (timely_moved arc_value (telling g.K.Link.told g.C.Timestamps.told g.C.Timestamps.stamped) (g.C.Timestamps.coming c.loop.clock) _ _ (in_hand c.is_cancelled.new.desk.attending false More c.is_cancelled.new.desk.reader _) c.args.desk.now.shelf c.is_cancelled.new.desk.shelf c.args.desk.now.seat c.is_cancelled.new.desk.seat c.args.desk.now.users.seat c.is_cancelled.new.desk.users.seat (c.is_cancelled.ensures.shelf ∙ c.loop.invariant.shelf) moved.here.seat_is moved.here.users_are w.serve_piece.ensures.timely c.args.desk.now.attending.user _ _ b at
             (stands_piece _ _ _ _ _ _ _ _ _ _ _ _ _ _ (moved.here.stands b at saw users) w.in-Bytes.ensures.read (grind (arith, common_steps))))
-            (went_to g.K.Link.told b _ (g.K.Link.state w.serve_piece-progress.new.link) c.is_cancelled.new.desk.seat c.is_cancelled.new.desk.users.seat (moved.here.seat_is.0 ∙ at.0, moved.here.seat_is.1 ∙ at.1, moved.here.users_are.0 ∙ at.2, moved.here.users_are.1 ∙ at.3) w.serve_piece-progress.ensures.link _ _ _ w.serve_piece-progress.ensures.asked);
-        gate = w.serve_piece-progress.ensures.unstopped (on_goes _ w.in-On.is) ∙ c.loop.invariant.gate;
-        counted = rw w.serve_piece-progress.ensures.link.wrote.reads (counted_more _ _ _ _ c.loop.invariant.counted w.in-Bytes.ensures.read.reads);
-        faults = w.serve_piece-progress.ensures.link.wrote.read_faults ∙ w.in-Bytes.ensures.read.no_fault (bytes_came _) ∙ c.loop.invariant.faults;
-        not_ended = λ _. w.serve_piece-progress.ensures.link.wrote.ended ∙ w.in-Bytes.ensures.read.ended;
-        hung_up = w.serve_piece-progress.ensures.hung_up ∙ w.in-Bytes.ensures.hung_up ∙ c.loop.invariant.hung_up;
+            (went_to g.K.Link.told b _ (g.K.Link.state w.serve_piece.new.link) c.is_cancelled.new.desk.seat c.is_cancelled.new.desk.users.seat (moved.here.seat_is.0 ∙ at.0, moved.here.seat_is.1 ∙ at.1, moved.here.users_are.0 ∙ at.2, moved.here.users_are.1 ∙ at.3) w.serve_piece.ensures.link _ _ _ w.serve_piece.ensures.asked);
+        gate = stayed_ok On w.serve_piece.result _ _ (w.in-Ok-On.is ∙ ap (λ (p : Progress). Ok p) w.in-Ok-On.field-0-is) w.serve_piece.ensures.stopped ∙ c.loop.invariant.gate;
+        counted = rw w.serve_piece.ensures.link.wrote.reads (counted_more _ _ _ _ c.loop.invariant.counted w.in-Bytes.ensures.read.reads);
+        faults = w.serve_piece.ensures.link.wrote.read_faults ∙ w.in-Bytes.ensures.read.no_fault (bytes_came _) ∙ c.loop.invariant.faults;
+        not_ended = λ _. w.serve_piece.ensures.link.wrote.ended ∙ w.in-Bytes.ensures.read.ended;
+        hung_up = w.serve_piece.ensures.hung_up ∙ w.in-Bytes.ensures.hung_up ∙ c.loop.invariant.hung_up;
         room = search rules;
-        asked = are_entered_on g.G.Gate.asked g.G.Gate.asked_on c.args.desk.now.seat c.is_cancelled.new.desk.seat c.args.desk.now.users.seat c.is_cancelled.new.desk.users.seat c.args.gate.now c.loop.gate w.serve_piece-progress.new.gate _ _ moved.here.entered moved.here.seat_is moved.here.users_are w.serve_piece-progress.ensures.asked;
-        noted = noted_more (arc_value c.args.desk.now.shelf) (telling g.K.Link.told g.C.Timestamps.told g.C.Timestamps.stamped) g.N.Notes.noted g.N.Notes.noted_on c.args.notes.now c.loop.notes w.serve_piece-progress.new.notes (stood (g.K.Link.state c.args.link.now) (g.C.Timestamps.coming c.args.clock.now) c.args.desk.now.seat c.args.desk.now.users.seat c.args.desk.now.attending) (stood _ (g.C.Timestamps.coming c.loop.clock) c.is_cancelled.new.desk.seat c.is_cancelled.new.desk.users.seat c.is_cancelled.new.desk.attending) (stood (g.K.Link.state w.serve_piece-progress.new.link) (g.C.Timestamps.coming w.serve_piece-progress.new.clock) w.serve_piece-progress.new.desk.seat w.serve_piece-progress.new.desk.users.seat w.serve_piece-progress.new.desk.attending) (noted_read (arc_value c.args.desk.now.shelf) (telling g.K.Link.told g.C.Timestamps.told g.C.Timestamps.stamped) (stood (g.K.Link.state c.args.link.now) (g.C.Timestamps.coming c.args.clock.now) c.args.desk.now.seat c.args.desk.now.users.seat c.args.desk.now.attending) (g.K.Link.state c.loop.link) _ (g.C.Timestamps.coming c.loop.clock) c.is_cancelled.new.desk.seat c.is_cancelled.new.desk.users.seat c.is_cancelled.new.desk.attending (g.N.Notes.noted c.args.notes.now c.loop.notes) _ _ noted_here w.in-Bytes.ensures.read) (noted_moved arc_value (telling g.K.Link.told g.C.Timestamps.told g.C.Timestamps.stamped) (stood _ (g.C.Timestamps.coming c.loop.clock) c.is_cancelled.new.desk.seat c.is_cancelled.new.desk.users.seat c.is_cancelled.new.desk.attending) (stood (g.K.Link.state w.serve_piece-progress.new.link) (g.C.Timestamps.coming w.serve_piece-progress.new.clock) w.serve_piece-progress.new.desk.seat w.serve_piece-progress.new.desk.users.seat w.serve_piece-progress.new.desk.attending) (g.N.Notes.noted c.loop.notes w.serve_piece-progress.new.notes) c.args.desk.now.shelf c.is_cancelled.new.desk.shelf (c.is_cancelled.ensures.shelf ∙ c.loop.invariant.shelf) w.serve_piece-progress.ensures.noted);
+        asked = are_entered_on g.G.Gate.asked g.G.Gate.asked_on c.args.desk.now.seat c.is_cancelled.new.desk.seat c.args.desk.now.users.seat c.is_cancelled.new.desk.users.seat c.args.gate.now c.loop.gate w.serve_piece.new.gate _ _ moved.here.entered moved.here.seat_is moved.here.users_are w.serve_piece.ensures.asked;
+        noted = noted_more (arc_value c.args.desk.now.shelf) (telling g.K.Link.told g.C.Timestamps.told g.C.Timestamps.stamped) g.N.Notes.noted g.N.Notes.noted_on c.args.notes.now c.loop.notes w.serve_piece.new.notes (stood (g.K.Link.state c.args.link.now) (g.C.Timestamps.coming c.args.clock.now) c.args.desk.now.seat c.args.desk.now.users.seat c.args.desk.now.attending) (stood _ (g.C.Timestamps.coming c.loop.clock) c.is_cancelled.new.desk.seat c.is_cancelled.new.desk.users.seat c.is_cancelled.new.desk.attending) (stood (g.K.Link.state w.serve_piece.new.link) (g.C.Timestamps.coming w.serve_piece.new.clock) w.serve_piece.new.desk.seat w.serve_piece.new.desk.users.seat w.serve_piece.new.desk.attending) (noted_read (arc_value c.args.desk.now.shelf) (telling g.K.Link.told g.C.Timestamps.told g.C.Timestamps.stamped) (stood (g.K.Link.state c.args.link.now) (g.C.Timestamps.coming c.args.clock.now) c.args.desk.now.seat c.args.desk.now.users.seat c.args.desk.now.attending) (g.K.Link.state c.loop.link) _ (g.C.Timestamps.coming c.loop.clock) c.is_cancelled.new.desk.seat c.is_cancelled.new.desk.users.seat c.is_cancelled.new.desk.attending (g.N.Notes.noted c.args.notes.now c.loop.notes) _ _ noted_here w.in-Bytes.ensures.read) (noted_moved arc_value (telling g.K.Link.told g.C.Timestamps.told g.C.Timestamps.stamped) (stood _ (g.C.Timestamps.coming c.loop.clock) c.is_cancelled.new.desk.seat c.is_cancelled.new.desk.users.seat c.is_cancelled.new.desk.attending) (stood (g.K.Link.state w.serve_piece.new.link) (g.C.Timestamps.coming w.serve_piece.new.clock) w.serve_piece.new.desk.seat w.serve_piece.new.desk.users.seat w.serve_piece.new.desk.attending) (g.N.Notes.noted c.loop.notes w.serve_piece.new.notes) c.args.desk.now.shelf c.is_cancelled.new.desk.shelf (c.is_cancelled.ensures.shelf ∙ c.loop.invariant.shelf) w.serve_piece.ensures.noted);
         vacant = λ limits none. absurd (omega (arith, none));
-        waits = waits_more (c.args.patience ≡ Limited) (language_for c.args.desk.now.attending.user (arc_value c.args.desk.now.shelf)) g.K.Link.begun g.K.Link.told g.C.Timestamps.told (g.K.Link.state c.args.link.now) (g.C.Timestamps.coming c.args.clock.now) c.args.desk.now.seat c.args.desk.now.users.seat (g.K.Link.state c.loop.link) (g.K.Link.state w.serve_piece-progress.new.link) _ (g.C.Timestamps.coming c.loop.clock) (now c.is_cancelled.new.desk) c.is_cancelled.new.desk.reader w.in-Bytes.ensures.begun moved.here.stands w.in-Bytes.ensures.read.reads w.serve_piece-progress.ensures.link.wrote.reads c.loop.counter c.loop.waited 1 c.waited_after-waited.result (c.waited_after-waited.ensures ∙ ap (λ (n : ℕ). waited_after c.is_cancelled.new.desk.attending.user c.loop.waited n) w.read-is) (λ limits nobody. c.is_over.ensures.lasts c.if-is_over.false limits (ap (λ (a : Attending). a.user) (sym c.is_cancelled.ensures.attending) ∙ nobody)) (omega arith) (omega arith) c.loop.invariant.waits;
-        idles = idles_heard (c.args.patience ≡ Limited) ((arc_value c.args.desk.now.shelf).idle) (language_for c.args.desk.now.attending.user (arc_value c.args.desk.now.shelf)) g.K.Link.begun g.K.Link.told g.C.Timestamps.told (g.K.Link.state c.args.link.now) (g.C.Timestamps.coming c.args.clock.now) c.args.desk.now.seat c.args.desk.now.users.seat (g.K.Link.state c.loop.link) (g.K.Link.state w.serve_piece-progress.new.link) _ (g.C.Timestamps.coming c.loop.clock) (now c.is_cancelled.new.desk) c.is_cancelled.new.desk.reader w.in-Bytes.ensures.begun moved.here.stands w.in-Bytes.ensures.read.reads w.serve_piece-progress.ensures.link.wrote.reads w.serve_piece-progress.new.desk.attending.user c.loop.counter c.loop.silent c.silent_after-silent.result (λ t. byte_came _ _ _ _ w.in-Bytes.ensures.read.fits (w.in-Bytes.ensures.read.left t)) (c.silent_after-silent.ensures ∙ ap (λ (n : ℕ). silent_after c.loop.silent n) w.read-is) (λ limits. subst (λ (i : IdleLimits). IsInTime i c.is_cancelled.new.desk.attending.user c.loop.silent) (c.idle-limits.ensures ∙ ap (λ (s : Contents). s.idle) c.deref.ensures) (subst (λ (a : Attending). IsInTime c.idle-limits.result a.user c.loop.silent) (sym c.is_cancelled.ensures.attending) (c.is_idle.ensures.awake c.if-is_idle.false limits))) idles_here;
+        waits = waits_more (c.args.patience ≡ Limited) (language_for c.args.desk.now.attending.user (arc_value c.args.desk.now.shelf)) g.K.Link.begun g.K.Link.told g.C.Timestamps.told (g.K.Link.state c.args.link.now) (g.C.Timestamps.coming c.args.clock.now) c.args.desk.now.seat c.args.desk.now.users.seat (g.K.Link.state c.loop.link) (g.K.Link.state w.serve_piece.new.link) _ (g.C.Timestamps.coming c.loop.clock) (now c.is_cancelled.new.desk) c.is_cancelled.new.desk.reader w.in-Bytes.ensures.begun moved.here.stands w.in-Bytes.ensures.read.reads w.serve_piece.ensures.link.wrote.reads c.loop.counter c.loop.waited 1 c.waited_after-waited.result (c.waited_after-waited.ensures ∙ ap (λ (n : ℕ). waited_after c.is_cancelled.new.desk.attending.user c.loop.waited n) w.read-is) (λ limits nobody. c.is_over.ensures.lasts c.if-is_over.false limits (ap (λ (a : Attending). a.user) (sym c.is_cancelled.ensures.attending) ∙ nobody)) (omega arith) (omega arith) c.loop.invariant.waits;
+        idles = idles_heard (c.args.patience ≡ Limited) ((arc_value c.args.desk.now.shelf).idle) (language_for c.args.desk.now.attending.user (arc_value c.args.desk.now.shelf)) g.K.Link.begun g.K.Link.told g.C.Timestamps.told (g.K.Link.state c.args.link.now) (g.C.Timestamps.coming c.args.clock.now) c.args.desk.now.seat c.args.desk.now.users.seat (g.K.Link.state c.loop.link) (g.K.Link.state w.serve_piece.new.link) _ (g.C.Timestamps.coming c.loop.clock) (now c.is_cancelled.new.desk) c.is_cancelled.new.desk.reader w.in-Bytes.ensures.begun moved.here.stands w.in-Bytes.ensures.read.reads w.serve_piece.ensures.link.wrote.reads w.serve_piece.new.desk.attending.user c.loop.counter c.loop.silent c.silent_after-silent.result (λ t. byte_came _ _ _ _ w.in-Bytes.ensures.read.fits (w.in-Bytes.ensures.read.left t)) (c.silent_after-silent.ensures ∙ ap (λ (n : ℕ). silent_after c.loop.silent n) w.read-is) (λ limits. subst (λ (i : IdleLimits). IsInTime i c.is_cancelled.new.desk.attending.user c.loop.silent) (c.idle-limits.ensures ∙ ap (λ (s : Contents). s.idle) c.deref.ensures) (subst (λ (a : Attending). IsInTime c.idle-limits.result a.user c.loop.silent) (sym c.is_cancelled.ensures.attending) (c.is_idle.ensures.awake c.if-is_idle.false limits))) idles_here;
       })
-      | in-Quiet+in-On-report w ↦ rw (w.desk-is, w.link-is, w.clock-is, w.gate-is, w.notes-is) (record {
+      | in-Quiet+in-On w ↦ rw (w.desk-is, w.link-is, w.clock-is, w.gate-is, w.notes-is) (record {
         shelf = w.report.ensures.shelf ∙ (c.is_cancelled.ensures.shelf ∙ c.loop.invariant.shelf);
         seat = (w.report.ensures.seat.0 ∙ moved.here.seat_is.0, w.report.ensures.seat.1 ∙ moved.here.seat_is.1, w.report.ensures.seat.2 ∙ moved.here.seat_is.2, w.report.ensures.seat.3 ∙ moved.here.seat_is.3);
         users = (ap (λ (u : UserDesk g.row.U.Denot). u.seat.opening) w.report.ensures.users ∙ moved.here.users_are.0, ap (λ (u : UserDesk g.row.U.Denot). u.seat.place) w.report.ensures.users ∙ moved.here.users_are.1, ap (λ (u : UserDesk g.row.U.Denot). u.seat.places) w.report.ensures.users ∙ moved.here.users_are.2, ap (λ (u : UserDesk g.row.U.Denot). u.seat.turnstile) w.report.ensures.users ∙ moved.here.users_are.3);
         stands = λ b at saw users. subst (λ (r : Reader). Stands (language_for c.args.desk.now.attending.user (arc_value c.args.desk.now.shelf)) g.K.Link.told g.C.Timestamps.told (g.K.Link.state c.args.link.now) (g.K.Link.state w.report.new.link) (g.C.Timestamps.coming c.args.clock.now) (g.C.Timestamps.coming w.report.new.clock) b (now w.report.new.desk) false More r []) (sym w.report.ensures.reader)
-            (goes_on_is _ _ _ _ _ _ _ _ _ _ _ _ w.in-On-report.is (moved_goes arc_value c.args.desk.now.attending.user g.K.Link.told g.C.Timestamps.told _ (g.K.Link.state w.report.new.link) (g.C.Timestamps.coming c.loop.clock) (g.C.Timestamps.coming w.report.new.clock) (now c.is_cancelled.new.desk) (now w.report.new.desk) (is_some c.is_cancelled.new.desk.attending.watch) c.is_cancelled.new.desk.reader c.is_cancelled.new.desk.reader w.report.result c.args.desk.now.shelf c.is_cancelled.new.desk.shelf c.args.desk.now.seat c.is_cancelled.new.desk.seat c.args.desk.now.users.seat c.is_cancelled.new.desk.users.seat [] [] (c.is_cancelled.ensures.shelf ∙ c.loop.invariant.shelf) moved.here.seat_is moved.here.users_are (λ k c1 b1. w.report.ensures.goes c.args.desk.now.attending.user k c1 b1 c.is_cancelled.new.desk.reader []) _ _ b at (stands_quiet _ _ _ _ _ _ _ _ _ _ _ _ (moved.here.stands b at saw users) w.in-Quiet.ensures.read)));
+            (goes_on_is _ _ _ _ _ _ _ _ _ _ _ _ (ap (λ (p : Progress). Ok p) w.in-On.is) (moved_goes arc_value c.args.desk.now.attending.user g.K.Link.told g.C.Timestamps.told _ (g.K.Link.state w.report.new.link) (g.C.Timestamps.coming c.loop.clock) (g.C.Timestamps.coming w.report.new.clock) (now c.is_cancelled.new.desk) (now w.report.new.desk) (is_some c.is_cancelled.new.desk.attending.watch) c.is_cancelled.new.desk.reader c.is_cancelled.new.desk.reader (Ok w.report.result) c.args.desk.now.shelf c.is_cancelled.new.desk.shelf c.args.desk.now.seat c.is_cancelled.new.desk.seat c.args.desk.now.users.seat c.is_cancelled.new.desk.users.seat [] [] (c.is_cancelled.ensures.shelf ∙ c.loop.invariant.shelf) moved.here.seat_is moved.here.users_are (λ k c1 b1. w.report.ensures.goes c.is_cancelled.new.desk.reader [] c.args.desk.now.attending.user k c1 b1) _ _ b at (stands_quiet _ _ _ _ _ _ _ _ _ _ _ _ (moved.here.stands b at saw users) w.in-Quiet.ensures.read)));
         prompt = prompt_more (language_for c.args.desk.now.attending.user (arc_value c.args.desk.now.shelf)) g.K.Link.begun g.K.Link.told g.C.Timestamps.told (g.K.Link.state c.args.link.now) (g.C.Timestamps.coming c.args.clock.now) c.args.desk.now.seat c.args.desk.now.users.seat (g.K.Link.state c.loop.link) (g.K.Link.state w.report.new.link) _ (g.C.Timestamps.coming c.loop.clock) (now c.is_cancelled.new.desk) c.is_cancelled.new.desk.reader c.loop.invariant.prompt w.in-Quiet.ensures.begun moved.here.stands w.in-Quiet.ensures.read.reads w.report.ensures.link.wrote.reads;
         heeds = λ limits. heeds_more (language_for c.args.desk.now.attending.user (arc_value c.args.desk.now.shelf)) g.K.Link.begun g.K.Link.told g.C.Timestamps.told (g.K.Link.state c.args.link.now) (g.C.Timestamps.coming c.args.clock.now) c.args.desk.now.seat c.args.desk.now.users.seat (g.K.Link.state c.loop.link) (g.K.Link.state w.report.new.link) _ (g.C.Timestamps.coming c.loop.clock) (now c.is_cancelled.new.desk) c.is_cancelled.new.desk.reader (c.loop.invariant.heeds limits) w.in-Quiet.ensures.begun (λ b at saw users. (moved.here.stands b at saw users, moved.unended c.if-is_cancelled.false limits b at saw users)) w.in-Quiet.ensures.read.reads w.report.ensures.link.wrote.reads;
         timely = λ b at saw users.
@@ -289,8 +291,8 @@ loop-preserved g c =
       })
     ]
 
-pub returns-in-Cut-report : goal.returns-in-Cut-report
-returns-in-Cut-report g c =
+pub returns-in-Cut : goal.returns-in-Cut
+returns-in-Cut g c =
     let moved = looked (language_for c.args.desk.now.attending.user (arc_value c.args.desk.now.shelf)) (telling g.K.Link.told g.C.Timestamps.told g.C.Timestamps.stamped) g.G.Gate.asked g.G.Gate.asked_on g.G.Gate.unasked (g.K.Link.state c.args.link.now) (g.K.Link.state c.loop.link) (g.C.Timestamps.coming c.args.clock.now) (g.C.Timestamps.coming c.loop.clock) c.args.desk.now.seat c.args.desk.now.users.seat c.args.gate.now c.loop.gate c.args.patience c.is_cancelled.result c.loop.desk.seat c.loop.desk.users.seat c.is_cancelled.new.desk.users.seat c.loop.desk.attending c.loop.desk.reader (record { seat_is = c.loop.invariant.seat; users_are = c.loop.invariant.users; stands = c.loop.invariant.stands; timely = c.loop.invariant.timely; entered = c.loop.invariant.asked }) c.is_cancelled.ensures.users c.is_cancelled.ensures.heeded c.is_cancelled.new.desk.seat c.is_cancelled.new.desk.attending c.is_cancelled.new.desk.reader c.is_cancelled.ensures.seat c.is_cancelled.ensures.attending c.is_cancelled.ensures.reader in
     let idles_here = subst (λ (a : Attending). Idles (c.args.patience ≡ Limited) ((arc_value c.args.desk.now.shelf).idle) (language_for c.args.desk.now.attending.user (arc_value c.args.desk.now.shelf)) g.K.Link.begun g.K.Link.told g.C.Timestamps.told (g.K.Link.state c.args.link.now) (g.C.Timestamps.coming c.args.clock.now) c.args.desk.now.seat c.args.desk.now.users.seat (g.K.Link.state c.loop.link) a.user c.loop.counter c.loop.silent) (sym c.is_cancelled.ensures.attending) c.loop.invariant.idles in
     let noted_here = noted_beside (arc_value c.args.desk.now.shelf) (telling g.K.Link.told g.C.Timestamps.told g.C.Timestamps.stamped) (stood (g.K.Link.state c.args.link.now) (g.C.Timestamps.coming c.args.clock.now) c.args.desk.now.seat c.args.desk.now.users.seat c.args.desk.now.attending) (stood (g.K.Link.state c.loop.link) (g.C.Timestamps.coming c.loop.clock) c.loop.desk.seat c.loop.desk.users.seat c.loop.desk.attending) (stood (g.K.Link.state c.loop.link) (g.C.Timestamps.coming c.loop.clock) c.is_cancelled.new.desk.seat c.is_cancelled.new.desk.users.seat c.is_cancelled.new.desk.attending) (g.N.Notes.noted c.args.notes.now c.loop.notes) c.loop.invariant.noted (beside_look g.K.Link.told (g.K.Link.state c.loop.link) (g.C.Timestamps.coming c.loop.clock) c.args.patience c.is_cancelled.result c.loop.desk.seat c.is_cancelled.new.desk.seat c.loop.desk.users.seat c.is_cancelled.new.desk.users.seat c.loop.desk.attending c.is_cancelled.new.desk.attending c.is_cancelled.ensures.seat c.is_cancelled.ensures.users c.is_cancelled.ensures.heeded c.is_cancelled.ensures.attending) in
@@ -298,9 +300,9 @@ returns-in-Cut-report g c =
     let p = c.seen-2.ensures.history in
     let seat = c.args.desk.now.seat in
     let b : Beginning = record { opening = seat.opening; users = c.args.desk.now.users.seat.opening; place = seat.place; before = h.0; users_before = p.0 } in
-    let cut : c.report.result ≡ Cut = elim c.in-Cut-report.is [ inl e ↦ e | inr e ↦ absurd (c.report.ensures.unstopped e) ] in
+    let cut : ◌≡◌ {A = Result Progress Stopped} (Ok c.report.result) (Ok Cut) = ap (λ (p : Progress). Ok p) c.in-Cut.is in
     let going : (g.K.Link.state c.report.new.link).ended ≡ false = c.report.ensures.link.wrote.ended ∙ c.in-Quiet.ensures.read.ended in
-    let breaks = goes_cut_is _ _ _ _ _ _ _ _ _ _ _ _ _ cut (moved_goes arc_value c.args.desk.now.attending.user g.K.Link.told g.C.Timestamps.told _ (g.K.Link.state c.report.new.link) (g.C.Timestamps.coming c.loop.clock) (g.C.Timestamps.coming c.report.new.clock) (now c.is_cancelled.new.desk) (now c.report.new.desk) (is_some c.is_cancelled.new.desk.attending.watch) c.is_cancelled.new.desk.reader c.is_cancelled.new.desk.reader c.report.result c.args.desk.now.shelf c.is_cancelled.new.desk.shelf c.args.desk.now.seat c.is_cancelled.new.desk.seat c.args.desk.now.users.seat c.is_cancelled.new.desk.users.seat [] [] (c.is_cancelled.ensures.shelf ∙ c.loop.invariant.shelf) moved.here.seat_is moved.here.users_are (λ k c1 b1. c.report.ensures.goes c.args.desk.now.attending.user k c1 b1 c.is_cancelled.new.desk.reader []) _ _ b (refl, refl, refl, c.args.desk.now.same_place) (stands_quiet _ _ _ _ _ _ _ _ _ _ _ _ (moved.here.stands b (refl, refl, refl, c.args.desk.now.same_place) h.1 p.1) c.in-Quiet.ensures.read)) in
+    let breaks = goes_cut_is _ _ _ _ _ _ _ _ _ _ _ _ _ cut (moved_goes arc_value c.args.desk.now.attending.user g.K.Link.told g.C.Timestamps.told _ (g.K.Link.state c.report.new.link) (g.C.Timestamps.coming c.loop.clock) (g.C.Timestamps.coming c.report.new.clock) (now c.is_cancelled.new.desk) (now c.report.new.desk) (is_some c.is_cancelled.new.desk.attending.watch) c.is_cancelled.new.desk.reader c.is_cancelled.new.desk.reader (Ok c.report.result) c.args.desk.now.shelf c.is_cancelled.new.desk.shelf c.args.desk.now.seat c.is_cancelled.new.desk.seat c.args.desk.now.users.seat c.is_cancelled.new.desk.users.seat [] [] (c.is_cancelled.ensures.shelf ∙ c.loop.invariant.shelf) moved.here.seat_is moved.here.users_are (λ k c1 b1. c.report.ensures.goes c.is_cancelled.new.desk.reader [] c.args.desk.now.attending.user k c1 b1) _ _ b (refl, refl, refl, c.args.desk.now.same_place) (stands_quiet _ _ _ _ _ _ _ _ _ _ _ _ (moved.here.stands b (refl, refl, refl, c.args.desk.now.same_place) h.1 p.1) c.in-Quiet.ensures.read)) in
     record {
       shelf = c.report.ensures.shelf ∙ (c.is_cancelled.ensures.shelf ∙ c.loop.invariant.shelf);
       seat = (c.report.ensures.seat.0 ∙ moved.here.seat_is.0, c.report.ensures.seat.1 ∙ moved.here.seat_is.1, c.report.ensures.seat.2 ∙ moved.here.seat_is.2, c.report.ensures.seat.3 ∙ moved.here.seat_is.3);

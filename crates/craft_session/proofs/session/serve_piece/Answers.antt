@@ -24,8 +24,6 @@ returns g c =
           (subst (λ (p : List ℕ). Stands (language_for first (arc_value c.args.desk.now.shelf)) g.K.Link.told g.C.Timestamps.told k (g.K.Link.state c.args.link.now) c1 (g.C.Timestamps.coming c.args.clock.now) b (now c.args.desk.now) false More c.args.desk.now.reader p) (grind (arith, common_steps)) stands));
       timely = subst (λ (p : List ℕ). IsTimelyFrom (arc_value c.args.desk.now.shelf) (telling g.K.Link.told g.C.Timestamps.told g.C.Timestamps.stamped) (stamp_at (g.C.Timestamps.coming c.args.clock.now) (g.K.Link.state c.args.link.now) c.args.desk.now.seat c.args.desk.now.users.seat) (in_hand c.args.desk.now.attending false More c.args.desk.now.reader p) (reached (g.K.Link.state c.serve_units-progress.new.link).written c.serve_units-progress.new.desk.seat.seen c.serve_units-progress.new.desk.users.seat.seen)) (grind (arith, common_steps)) s.timely;
       stopped = s.stopped;
-      unstopped = s.unstopped;
-      later = s.later;
       asked = s.asked;
       noted = s.noted;
     })

@@ -28,4 +28,4 @@ returns-in-Ok-open-clause-started g c =
 pub returns-in-Err-clause-started : goal.returns-in-Err-clause-started
 returns-in-Err-clause-started g c =
     let e = c.in-Err.ensures in
-    not_opened g.D.Disk.told g.D.Disk.state c.args.disk c.args.shelf c.deref-2.result.now _ c.in-Err.fault (c.deref-2.ensures ∙ c.in-Ok.ensures.ok) e.fails e.any_moment e.sound e.stopped
+    not_opened g.D.Disk.told g.D.Disk.state c.args.disk c.args.shelf c.deref-2.result.now _ c.in-Err.fault (c.deref-2.ensures ∙ c.in-Ok.ensures.ok) e.fails e.any_moment e.sound e.stopped.cause

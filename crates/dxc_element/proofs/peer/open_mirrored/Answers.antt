@@ -1,7 +1,8 @@
 use Rattle.std.proofs.Common.{[], ◌∷◌, Ok, Err, ◌∙◌, inl, inr, true≢false, sym, refl}
 use Rattle.std.proofs.lemmas.Result.{err_from_is_err_and}
 use Rattle.dxc_element.specs.Openings.{named, sources, users_name}
-use Rattle.dxc_element.specs.Peers.{peering, users_peer}
+use Rattle.dxc_element.specs.Lenders.{lender}
+use Rattle.dxc_element.specs.Peers.{users_peer}
 use Rattle.dxc_element.proofs.Mirroring.{with_mirrored_users}
 use Rattle.dxc_element.proofs.Starting.{users_kept}
 use Rattle.dxc_outside.specs.Asked.{journal_named, peer_named, shelf_named}
@@ -15,7 +16,7 @@ returns-in-Ok-clause-opened g c =
     let before = sources (g.O.Opener.state c.args.opener.now) (g.O.Opener.journal_at c.args.opener.now) (g.G.Gate.stops c.args.gate.now) in
     let mid = sources (g.O.Opener.state c.mirrored_controller.new.opener) (g.O.Opener.journal_at c.mirrored_controller.new.opener) (g.G.Gate.stops c.mirrored_controller.new.gate) in
     let after = sources (g.O.Opener.state c.mirrored_users.new.opener) (g.O.Opener.journal_at c.mirrored_users.new.opener) (g.G.Gate.stops c.mirrored_controller.new.gate) in
-    (h, with_mirrored_users (peering g.O.Opener g.O.Journal.Disk g.O.Peer.Link g.O.LetGo.gone) names before mid after c.mirrored_controller.ensures.others h.0.shelf c.deref.result.now (c.deref.ensures ∙ h.1.shelf) (Ok c.in-Ok.users) c.mirrored_controller.ensures.later c.in-Ok.ensures.users)
+    (h, with_mirrored_users (lender g.O.Opener g.O.Journal.Disk g.O.Peer.Link g.O.LetGo.gone) names before mid after c.mirrored_controller.ensures.others h.0.shelf c.deref.result.now (c.deref.ensures ∙ h.1.shelf) (Ok c.in-Ok.users) c.mirrored_controller.ensures.later c.in-Ok.ensures.users)
 
 pub returns-in-Err-clause-opened : goal.returns-in-Err-clause-opened
 returns-in-Err-clause-opened g c =
@@ -28,7 +29,7 @@ returns-in-Err-clause-opened g c =
       h.0,
       record { workers = c.args.workers; controller = c.in_ok-controller.controller; started = h.1; let_go = c.let_go.ensures },
       c.in_ok-controller.ensures.unstopped,
-      with_mirrored_users (peering g.O.Opener g.O.Journal.Disk g.O.Peer.Link g.O.LetGo.gone) names before mid after c.mirrored_controller.ensures.others h.0.shelf c.deref.result.now (c.deref.ensures ∙ h.1.shelf) (Err c.in-Err.status) c.mirrored_controller.ensures.later c.in-Err.ensures.users,
+      with_mirrored_users (lender g.O.Opener g.O.Journal.Disk g.O.Peer.Link g.O.LetGo.gone) names before mid after c.mirrored_controller.ensures.others h.0.shelf c.deref.result.now (c.deref.ensures ∙ h.1.shelf) (Err c.in-Err.status) c.mirrored_controller.ensures.later c.in-Err.ensures.users,
     )
 
 pub returns-in_err-controller-clause-opened : goal.returns-in_err-controller-clause-opened

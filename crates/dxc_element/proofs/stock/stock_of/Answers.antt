@@ -1,11 +1,10 @@
-use Rattle.std.proofs.Common.{◌≡◌, ◌≤◌, ◌++◌, sym, ◌∙◌, ap, subst, rules}
-use Rattle.std.specs.Prelude.{IfNone, IfSome, vec_capacity}
+use Rattle.std.proofs.Common.{◌≡◌, ◌≤◌, ◌++◌, sym, ◌∙◌, ap, subst}
+use Rattle.std.specs.Prelude.{vec_capacity}
 use Rattle.dxc_num.specs.Dimensions.{Dimensions, ports}
 use Rattle.xc_core.specs.declared.provisioner.Driver.{Driver}
 use Rattle.xc_core.specs.declared.state.Home.{Home}
 use Rattle.xc_core.specs.declared.state.Home.TheVariants.{In, Out}
 use Rattle.xc_core.specs.declared.state.State.{State}
-use Rattle.xc_core.specs.Provisioners.{Boxed}
 use Rattle.xc_core.specs.States.{began, opening_of}
 use Rattle.xc_core.proofs.Turning.{state_shape}
 use Rattle.dxc_element.proofs.Stocking.{found_stands, held_up_at, left_at}

@@ -20,7 +20,7 @@ module _ (told : Type 0) (a b : LinkState) (bytes : List ℕ) where
     cause = record { later = write.wrote.later; cause = λ is_cut. cc };
   }
 
-  -- it took some, and the rest was sent behind it, or a part of that
+  -- it took some, and the rest was sent after it, or a part of that
   took_some : (c : LinkState) (count : ℕ) (sent : Sent) → IsWrite told a b (Took count) bytes → IsSent told b c sent (drop count bytes) → IsSent told a c sent bytes
   took_some c count sent write then = record {
     part = take count bytes ++ then.part;

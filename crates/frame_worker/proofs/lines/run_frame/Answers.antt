@@ -3,8 +3,8 @@ use Rattle.frame_worker.specs.declared.lines.LinesEnd.TheVariants.{End, ReadFaul
 use Rattle.frame_worker.proofs.Running.{none_carried, one_carried, one_unwritten}
 use Rattle.frame_worker.proofs.lines.run_frame.Goals as goal
 
-pub returns-in-Stop-clause-run : goal.returns-in-Stop-clause-run
-returns-in-Stop-clause-run g c = (search rules, none_carried c.args.fabric.now.size g.N.Lines.told Stopped (g.N.Lines.state c.args.lines.now) (g.N.Lines.state c.args.lines.now) c.args.seat.now.reader.worker (refl, refl) refl (λ t. refl) (λ t. refl))
+pub returns-in-Err-clause-run : goal.returns-in-Err-clause-run
+returns-in-Err-clause-run g c = (search rules, none_carried c.args.fabric.now.size g.N.Lines.told Stopped (g.N.Lines.state c.args.lines.now) (g.N.Lines.state c.args.lines.now) c.args.seat.now.reader.worker (refl, refl) refl (λ t. refl) (λ t. refl))
 
 pub returns-in-End-clause-run : goal.returns-in-End-clause-run
 returns-in-End-clause-run g c = (search rules, none_carried c.args.fabric.now.size g.N.Lines.told End (g.N.Lines.state c.args.lines.now) (g.N.Lines.state c.read_frame.new.self) c.args.seat.now.reader.worker (refl, refl) refl c.in-End.ensures.left c.in-End.ensures.written)
@@ -30,17 +30,17 @@ returns-in-Failed-write_frame-clause-run g c =
           (λ t. wrote.written t ∙ (append-nil (g.N.Lines.state c.read_frame.new.self).written ∙ read.written t)),
     )
 
-pub returns-in-Stop-clause-stopped : goal.returns-in-Stop-clause-stopped
-returns-in-Stop-clause-stopped g c = λ _. c.in-Stop.ensures.stop refl
+pub returns-in-Err-clause-stopped : goal.returns-in-Err-clause-stopped
+returns-in-Err-clause-stopped g c = λ _. c.in-Err.ensures.stop refl
 
 pub returns-in-End-clause-unstopped : goal.returns-in-End-clause-unstopped
-returns-in-End-clause-unstopped g c = λ _. c.in-Go.ensures.go refl
+returns-in-End-clause-unstopped g c = λ _. c.in-Ok.ensures.go refl
 
 pub returns-in-Failed-clause-unstopped : goal.returns-in-Failed-clause-unstopped
-returns-in-Failed-clause-unstopped g c = λ _. c.in-Go.ensures.go refl
+returns-in-Failed-clause-unstopped g c = λ _. c.in-Ok.ensures.go refl
 
 pub returns-in-Took-clause-unstopped : goal.returns-in-Took-clause-unstopped
-returns-in-Took-clause-unstopped g c = λ _. c.in-Go.ensures.go refl
+returns-in-Took-clause-unstopped g c = λ _. c.in-Ok.ensures.go refl
 
 pub returns-in-Failed-write_frame-clause-unstopped : goal.returns-in-Failed-write_frame-clause-unstopped
-returns-in-Failed-write_frame-clause-unstopped g c = λ _. c.in-Go.ensures.go refl
+returns-in-Failed-write_frame-clause-unstopped g c = λ _. c.in-Ok.ensures.go refl

@@ -9,7 +9,7 @@ use Rattle.frame_worker.specs.Lines.{askings}
 use Rattle.frame_worker.proofs.Running.{run_more, counted}
 use Rattle.frame_worker.proofs.lines.run_lines.Goals as goal
 
--- an end that came in place of a frame, or behind its carrying, took one asking more
+-- an end that came in place of a frame, or after its carrying, took one asking more
 one_asked : (e : LinesEnd) (n : ℕ) → e ≢ Spent → askings e (n + 0) ≡ n + 1
 one_asked End n other = omega arith
 one_asked ReadFault n other = omega arith

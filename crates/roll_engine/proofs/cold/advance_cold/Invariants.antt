@@ -1,4 +1,4 @@
-use Rattle.std.proofs.Common.{◌≡◌}
+use Rattle.std.proofs.Common.{◌≡◌, Ok}
 use Rattle.dxc_num.specs.Dimensions.{ports}
 use Rattle.roll_engine.specs.declared.answer.Advance.TheVariants.{Done}
 use Rattle.roll_engine.specs.Answers.{asked_at}
@@ -6,14 +6,14 @@ use Rattle.roll_engine.specs.Cold.{IsCold, left_of, outputs_left}
 use Rattle.roll_engine.proofs.Leading.{IsOnWay}
 use Rattle.roll_engine.proofs.cold.advance_cold.Given as goal
 
-abbrev pub invariant-loop-answer : goal.invariant-loop-answer
-invariant-loop-answer g l = record {
+abbrev pub invariant-loop-halted : goal.invariant-loop-halted
+invariant-loop-halted g l = record {
   fabric : l.mover.fabric ≡ l.fn.mover.fabric;
   way : IsOnWay l.fn.mover.fabric.size l.matrix l.fn.rolling l.rolling l.fn.mover.mover l.mover.mover;
   kept : IsCold l.fn.rolling → IsCold l.rolling;
   unstopped : g.G.Gate.stops l.gate ≡ g.G.Gate.stops l.fn.gate;
-  asked : g.G.Gate.asked l.fn.gate l.gate (asked_at (left_of l.matrix l.fn.mover.mover l.fn.rolling) (left_of l.matrix l.mover.mover l.rolling) Done);
+  asked : g.G.Gate.asked l.fn.gate l.gate (asked_at (left_of l.matrix l.fn.mover.mover l.fn.rolling) (left_of l.matrix l.mover.mover l.rolling) (Ok Done));
 }
 
-abbrev pub decreases-loop-answer : goal.decreases-loop-answer
-decreases-loop-answer g l = outputs_left (ports l.matrix.shape) l.rolling.behind
+abbrev pub decreases-loop-halted : goal.decreases-loop-halted
+decreases-loop-halted g l = outputs_left (ports l.matrix.shape) l.rolling.behind

@@ -1,4 +1,4 @@
-use Rattle.std.proofs.Common.{rules, arith, ◌≡◌, ◌++◌, ◌∙◌}
+use Rattle.std.proofs.Common.{rules, arith, ◌++◌, ◌∙◌}
 use Rattle.fabric_core.specs.declared.size.Size.{Size}
 use Rattle.fabric_core.specs.declared.mover.Mover.{Mover}
 use Rattle.fabric_core.specs.Passing.{Passed}

@@ -1,7 +1,7 @@
 use Rattle.std.proofs.Common.{◌≡◌, ◌≤◌, List, ◌++◌, length, map, ◌∙◌, ap, subst, arith}
 use Rattle.std.specs.Prelude.{OnOk}
 use Rattle.journal_core.specs.declared.book.Book.{Book}
-use Rattle.journal_core.specs.declared.spare.Spare.TheVariants.{Drafted, Open}
+use Rattle.journal_core.specs.declared.spare.SpareArea.TheVariants.{Drafted, Open}
 use Rattle.journal_core.specs.Books.{draft_of, is_drafted, rows}
 use Rattle.user_admin.specs.declared.op.UserChange.{UserChange}
 use Rattle.user_admin.specs.Records.{spelling}

@@ -4,7 +4,7 @@ use Rattle.dxc_num.specs.Dimensions.{Dimensions}
 use Rattle.dxc_disk.specs.Disks.{LeavesOnly}
 use Rattle.dxc_disk.proofs.DiskSteps.{spends_more, spends_none, spends_on}
 use Rattle.journal_core.specs.declared.book.Book.{Book}
-use Rattle.journal_core.specs.declared.spare.Spare.TheVariants.{Drafted, Open}
+use Rattle.journal_core.specs.declared.spare.SpareArea.TheVariants.{Drafted, Open}
 use Rattle.journal_core.specs.Books.{draft_of, is_drafted, rows}
 use Rattle.journal_core.proofs.KeepSteps.{only_on}
 use Rattle.user_admin.specs.declared.op.UserChange.{UserChange}

@@ -1,6 +1,6 @@
 use Rattle.std.proofs.Common.{◌≡◌, ◌+◌, ◌*◌, ◌≤◌, ◌++◌, length, map, take, Option}
 use Rattle.dxc_disk.specs.Disks.{LeavesOnly, Spends}
-use Rattle.journal_core.specs.declared.spare.Spare.TheVariants.{Drafted}
+use Rattle.journal_core.specs.declared.spare.SpareArea.TheVariants.{Drafted}
 use Rattle.journal_core.specs.Books.{IsWhole, draft_of, rows}
 use Rattle.user_admin.specs.declared.op.UserChange.{UserChange}
 use Rattle.user_admin.specs.Users.{Users}

@@ -1,6 +1,6 @@
 use Rattle.std.proofs.Common.{refl, ◌∙◌, ap}
 use Rattle.user_admin.specs.declared.op.UserMark.TheVariants.{Entered}
-use Rattle.user_admin.specs.declared.op.UserOp.TheVariants.{Cancel}
+use Rattle.tl1_users.specs.declared.op.UserOp.TheVariants.{Cancel}
 use Rattle.user_admin.specs.declared.op.UserOutcome.TheVariants.{Answered}
 use Rattle.user_admin.specs.declared.shared.SharedUsers.{SharedUsers}
 use Rattle.user_admin.specs.Occupants.{answered}

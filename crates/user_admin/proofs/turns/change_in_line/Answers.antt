@@ -1,8 +1,8 @@
-use Rattle.std.proofs.Common.{ℕ, Some, None, [], ◌++◌, refl, ◌∙◌, ap, subst}
+use Rattle.std.proofs.Common.{ℕ, Option, Ok, [], ◌++◌, refl, ◌∙◌, subst}
 use Rattle.user_admin.specs.declared.turns.UserTook.{UserTook}
-use Rattle.user_admin.specs.Shared.{opening_at}
-use Rattle.user_admin.specs.Turns.{TriedIs}
-use Rattle.user_admin.proofs.Turning.{later_behind, none_is, rose_behind, some_is, tried_behind, turned_none}
+use Rattle.user_admin.specs.Shared.{asked_in, opening_at}
+use Rattle.user_admin.specs.Turns.{TookIs, TurnedBack}
+use Rattle.user_admin.proofs.Turning.{back_behind, rose_behind, stood, took_behind, tried_none, tried_some, turned_none}
 use Rattle.user_admin.proofs.turns.change_in_line.Goals as goal
 
 pub try_change-requires-clause-seen : goal.try_change-requires-clause-seen
@@ -11,16 +11,25 @@ try_change-requires-clause-seen g c = let w = c.requires.seen in let b = c.loop.
 pub loop-init : goal.loop-init
 loop-init g c = record { goes = (tt, tt); pass = c.requires.pass; number = refl; rests = λ rests. rests; passed = λ h saw. turned_none (opening_at g.D.Disk.state c.args.turns.now.first) c.args.pass.now.number h c.args.pass.now.seen saw; gate = refl; asked = g.G.Gate.unasked c.args.gate.now }
 
-pub returns-in-Some-try_change : goal.returns-in-Some-try_change
-returns-in-Some-try_change g c =
-    let t = c.in-Some-try_change.ensures in
+pub returns-in-Ok-Some : goal.returns-in-Ok-Some
+returns-in-Ok-Some g c =
+    let t = c.in-Ok-Some.ensures in
     record {
       pass = (c.try_change.ensures.pass.0, c.try_change.ensures.pass.1 ∙ c.loop.invariant.number);
       rests = λ rests. c.try_change.ensures.rests (c.loop.invariant.rests rests);
-      took = λ h saw. tried_behind (opening_at g.D.Disk.state c.args.turns.now.first) c.args.pass.now.number h c.args.op.now c.loop.pass.seen c.try_change.new.pass.seen (Some c.in-Some-try_change.took) (c.loop.invariant.passed h saw) (λ k next. subst (λ (n : ℕ). TriedIs (opening_at g.D.Disk.state c.args.turns.now.first) n k c.args.op.now c.try_change.new.pass.seen (Some c.in-Some-try_change.took)) c.loop.invariant.number (c.in-Some-try_change.ensures.took k next));
-      stopped = λ is. rose_behind _ _ _ c.loop.invariant.gate (t.stopped (ap (λ (x : UserTook). Some x) is));
-      unstopped = λ other. t.unstopped (λ is. other (some_is _ _ is)) ∙ c.loop.invariant.gate;
-      later = later_behind _ _ _ c.loop.invariant.gate c.try_change.ensures.later;
+      took = λ h saw. took_behind (opening_at g.D.Disk.state c.args.turns.now.first) c.args.pass.now.number h c.args.op.now c.loop.pass.seen c.try_change.new.pass.seen (Ok c.in-Ok-Some.took) (c.loop.invariant.passed h saw) (λ k next. subst (λ (n : ℕ). TookIs (opening_at g.D.Disk.state c.args.turns.now.first) n k c.args.op.now c.try_change.new.pass.seen (Ok c.in-Ok-Some.took)) c.loop.invariant.number (tried_some (opening_at g.D.Disk.state c.args.turns.now.first) c.loop.pass.number k c.args.op.now c.try_change.new.pass.seen c.in-Ok-Some.field-0 c.in-Ok-Some.took c.in-Ok-Some.field-0-is (c.in-Ok-Some.ensures.took k next)));
+      stopped = rose_behind _ _ _ _ c.loop.invariant.gate t.stopped;
+      asked = g.G.Gate.asked_on c.args.gate.now c.loop.gate c.try_change.new.gate [] _ c.loop.invariant.asked (subst (λ (x : Option UserTook). g.G.Gate.asked c.loop.gate c.try_change.new.gate (asked_in (Ok x))) c.in-Ok-Some.field-0-is t.asked);
+    }
+
+pub returns-in-Err : goal.returns-in-Err
+returns-in-Err g c =
+    let t = c.in-Err.ensures in
+    record {
+      pass = (c.try_change.ensures.pass.0, c.try_change.ensures.pass.1 ∙ c.loop.invariant.number);
+      rests = λ rests. c.try_change.ensures.rests (c.loop.invariant.rests rests);
+      took = λ h saw. back_behind (opening_at g.D.Disk.state c.args.turns.now.first) c.args.pass.now.number h c.loop.pass.seen c.try_change.new.pass.seen (c.loop.invariant.passed h saw) (λ k next. subst (λ (n : ℕ). TurnedBack (opening_at g.D.Disk.state c.args.turns.now.first) n k c.try_change.new.pass.seen) c.loop.invariant.number (t.took k next));
+      stopped = rose_behind _ _ _ _ c.loop.invariant.gate t.stopped;
       asked = g.G.Gate.asked_on c.args.gate.now c.loop.gate c.try_change.new.gate [] _ c.loop.invariant.asked t.asked;
     }
 
@@ -30,7 +39,7 @@ loop-preserved g c = record {
   pass = c.try_change.ensures.pass.0;
   number = c.try_change.ensures.pass.1 ∙ c.loop.invariant.number;
   rests = λ rests. c.try_change.ensures.rests (c.loop.invariant.rests rests);
-  passed = λ h saw. tried_behind (opening_at g.D.Disk.state c.args.turns.now.first) c.args.pass.now.number h c.args.op.now c.loop.pass.seen c.try_change.new.pass.seen None (c.loop.invariant.passed h saw) (λ k next. subst (λ (n : ℕ). TriedIs (opening_at g.D.Disk.state c.args.turns.now.first) n k c.args.op.now c.try_change.new.pass.seen None) c.loop.invariant.number (c.in-None-try_change.ensures.took k next));
-  gate = c.in-None-try_change.ensures.unstopped (λ is. none_is _ is) ∙ c.loop.invariant.gate;
-  asked = g.G.Gate.asked_on c.args.gate.now c.loop.gate c.try_change.new.gate [] [] c.loop.invariant.asked c.in-None-try_change.ensures.asked;
+  passed = λ h saw. back_behind (opening_at g.D.Disk.state c.args.turns.now.first) c.args.pass.now.number h c.loop.pass.seen c.try_change.new.pass.seen (c.loop.invariant.passed h saw) (λ k next. subst (λ (n : ℕ). TurnedBack (opening_at g.D.Disk.state c.args.turns.now.first) n k c.try_change.new.pass.seen) c.loop.invariant.number (tried_none (opening_at g.D.Disk.state c.args.turns.now.first) c.loop.pass.number k c.args.op.now c.try_change.new.pass.seen c.in-Ok-None.field-0 c.in-Ok-None.field-0-is (c.in-Ok-None.ensures.took k next)));
+  gate = stood _ _ c.in-Ok-None.ensures.stopped ∙ c.loop.invariant.gate;
+  asked = g.G.Gate.asked_on c.args.gate.now c.loop.gate c.try_change.new.gate [] [] c.loop.invariant.asked (subst (λ (x : Option UserTook). g.G.Gate.asked c.loop.gate c.try_change.new.gate (asked_in (Ok x))) c.in-Ok-None.field-0-is c.in-Ok-None.ensures.asked);
 }

@@ -4,8 +4,8 @@ use Rattle.xc_core.specs.Seeing.{entry}
 use Rattle.xc_core.proofs.Turning.{rests_now}
 use Rattle.worked_restarts.proofs.beside.bring_or_cut.Goals as goal
 
-pub returns-in-Done : goal.returns-in-Done
-returns-in-Done g c =
+pub returns-in-Ok-Done : goal.returns-in-Ok-Done
+returns-in-Ok-Done g c =
     let w = c.requires.taken in
     let done = c.bring.ensures.done w.0 w.1 in
     let before = w.0 ++ done.1.later in

@@ -1,6 +1,5 @@
 use Rattle.std.proofs.Common.{sym, ◌∙◌, ap, inl, subst}
-use Rattle.roll_engine.specs.declared.answer.Advance.{Advance}
-use Rattle.roll_engine.specs.Answers.{AnswerIs}
+use Rattle.roll_engine.specs.Answers.{Answer, AnswerIs}
 use Rattle.roll_engine.specs.Rollings.{rest_of}
 use Rattle.xc_core.specs.declared.provisioner.Driver.{Driver}
 use Rattle.xc_core.specs.Provisioners.{Ground}
@@ -46,4 +45,4 @@ bring_or_cut-requires-clause-done g c = λ is.
     let w = c.requires.taken in
     let t = subst (λ (x : Driver g.row.D.Denot). HasTaken g.D.Disk.told g.D.Disk.state (opening_of g.D.Disk.state c.args.turns.now.first) c.args.pass.now.number c.args.op.now w.0 x.p x.rolling) (sym c.deref_mut-out.ensures.value) w.2 in
     let alone = (c.drive-first.ensures.rolls t.out.now c.args.op.now t.change t.rolls).alone in
-    subst (λ (x : Advance). AnswerIs c.args.fabric.now.size (rest_of c.drive-first.new.rolling) (rest_of c.drive-then.new.rolling) c.drive-first.new.p.mover.mover c.drive-then.new.p.mover.mover x) is (c.drive-then.ensures.answer alone)
+    subst (λ (x : Answer). AnswerIs c.args.fabric.now.size (rest_of c.drive-first.new.rolling) (rest_of c.drive-then.new.rolling) c.drive-first.new.p.mover.mover c.drive-then.new.p.mover.mover x) is (c.drive-then.ensures.answer alone)

@@ -3,7 +3,7 @@ use Rattle.std.proofs.lemmas.Option.{slice_get_within}
 use Rattle.dxc_disk.proofs.DiskSteps.{spends_more, spends_none, spends_on}
 use Rattle.dxc_model.specs.Tables.{Board}
 use Rattle.journal_core.specs.declared.book.Book.{Book}
-use Rattle.journal_core.specs.declared.spare.Spare.TheVariants.{Drafted, Open}
+use Rattle.journal_core.specs.declared.spare.SpareArea.TheVariants.{Drafted, Open}
 use Rattle.journal_core.specs.Books.{draft_of, is_drafted, is_tried, listed, rows}
 use Rattle.journal_core.proofs.AcknowledgeSteps.{Kept}
 use Rattle.journal_core.proofs.KeepSteps.{only_on}

@@ -1,7 +1,7 @@
 use Rattle.std.proofs.Common.{◌≡◌, ◌-◌, ◌*◌, ◌≤◌, length, take, Option}
 use Rattle.dxc_disk.specs.Disks.{LeavesOnly, Spends}
 use Rattle.dxc_model.specs.declared.op.Op.{Op}
-use Rattle.journal_core.specs.declared.spare.Spare.TheVariants.{Drafted}
+use Rattle.journal_core.specs.declared.spare.SpareArea.TheVariants.{Drafted}
 use Rattle.journal_core.specs.Books.{IsWhole, draft_of, listed, rows}
 use Rattle.journal_core.specs.Turns.{Keeps}
 use Rattle.xc_recovery.specs.Rows.{IsRowAt, checkpoint}

@@ -33,15 +33,15 @@ on_err (Ok x) P here = tt
 on_err (Err e) P here = here
 
 -- where a checkpoint is due, the copy is the table
-copy_is : {D : Type 0} (b : Past) (a m : Provisioner D) → m ≡ record a { journal = m.journal; doubt = m.doubt } → m.journal.1 ≡ record a.journal.1 { to_mend = m.journal.1.to_mend } → (IsReady m.journal.1 → ⊥) → IsCopied b a → m.second.expected ≡ b.fold.table
-copy_is {D} b a m others book due copied = ap (λ (x : Provisioner D). x.second.expected) others ∙ copied (λ r. due (subst IsReady (sym book) (record { below = r.below; still = r.still; version = r.version })))
+copy_is : {D : Type 0} (b : Past) (a m : Provisioner D) → m ≡ record a { journal = m.journal; doubt = m.doubt } → m.journal.1 ≡ record a.journal.1 { to_mend = m.journal.1.to_mend } → (IsReady m.journal.1 → ⊥) → IsCopied b a → m.replayed.expected ≡ b.fold.table
+copy_is {D} b a m others book due copied = ap (λ (x : Provisioner D). x.replayed.expected) others ∙ copied (λ r. due (subst IsReady (sym book) (record { below = r.below; still = r.still; version = r.version })))
 
 pub write_checkpoint-requires-clause-placed : goal.write_checkpoint-requires-clause-placed
 write_checkpoint-requires-clause-placed g c =
     let w = c.requires.home in
     let h = c.settle.ensures.home w.0 w.1 in
     let copy = copy_is w.0 c.args.p.now c.settle.new.p c.settle.ensures.others c.settle.ensures.book (λ r. let e : true ≡ false = c.if-not-due.ensures.1 r in cc) w.2 in
-    placed_as w.0 c.settle.new.p.second.expected c.settle.new.p.matrix copy h.past.matrix h.past.placed
+    placed_as w.0 c.settle.new.p.replayed.expected c.settle.new.p.matrix copy h.past.matrix h.past.placed
 
 pub write_checkpoint-requires-clause-shape : goal.write_checkpoint-requires-clause-shape
 write_checkpoint-requires-clause-shape g c =

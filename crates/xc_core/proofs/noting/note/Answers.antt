@@ -1,13 +1,15 @@
-use Rattle.std.proofs.Common.{◌≡◌, ◌≢◌, ◌+◌, false, inl, inr, ⊎_elim, Some, refl, sym, ap, ◌∙◌, subst}
+use Rattle.std.proofs.Common.{◌≡◌, ◌≢◌, ◌+◌, false, inl, inr, ⊎_elim, Some, Result, Ok, refl, sym, ap, ◌∙◌, subst}
 use Rattle.dxc_causes.specs.Causes.{HasCause, Rose}
 use Rattle.dxc_disk.specs.Disks.{LeavesOnly, Spends}
 use Rattle.dxc_disk.proofs.DiskSteps.{spends_none, spends_on}
+use Rattle.dxc_outside.specs.declared.stopped.Stopped.{Stopped}
 use Rattle.roll_engine.specs.Rollings.{RollingAt}
 use Rattle.journal_core.specs.declared.book.Book.{Book}
 use Rattle.journal_core.specs.Books.{IsReady}
+use Rattle.xc_core.specs.declared.noting.Noted.{Noted}
 use Rattle.xc_core.specs.declared.noting.Noted.TheVariants as noted
 use Rattle.xc_core.specs.declared.provisioner.Provisioner.{Provisioner}
-use Rattle.xc_core.specs.Begins.{IsCopied, IsWithin, MayNote, Starts, plan_of}
+use Rattle.xc_core.specs.Begins.{IsCopied, IsWithin, MayNote, NotedIs, Starts, plan_of}
 use Rattle.xc_core.specs.Journals.{IsCounted, IsOldOrOneMore}
 use Rattle.xc_core.specs.Provisioners.{IsHome, ground_of}
 use Rattle.xc_core.specs.Reckonings.{Past}
@@ -18,14 +20,15 @@ use Rattle.xc_core.proofs.Pasts.{with_journal}
 use Rattle.xc_core.proofs.Rolling.{append_left, is_within, left_alone, not_appended, starts}
 use Rattle.xc_core.proofs.Rooms.{fault_on}
 use Rattle.xc_core.proofs.Settling.{ready_still}
+use Rattle.xc_core.proofs.Stopping.{by_stop}
 use Rattle.xc_core.proofs.noting.note.Given as given
 use Rattle.xc_core.proofs.noting.note.Goals as goal
 use Rattle.xc_core.proofs.noting.note.Goals.{After-append, After-make_ready}
 
-rolling_no_fault : noted.Rolling ≢ noted.Fault
+rolling_no_fault : ◌≢◌ {A = Result Noted Stopped} (Ok noted.Rolling) (Ok noted.Fault)
 rolling_no_fault is = cc
 
--- the place behind the call that made it ready
+-- the place after the call that made it ready
 abbrev made_ready : (g : given.Over) → After-append g → After-make_ready g
 made_ready g c = c.before.before.before.before.before
 
@@ -40,16 +43,21 @@ within_limits g c b m = is_within g.D.Disk.told g.D.Disk.state b c.args.op.now c
 ready_home : (g : given.Over) (c : After-make_ready g) (b : Past) → MayNoteHere g c b → IsHome g.D.Disk.told g.D.Disk.state b c.make_ready.new.p
 ready_home g c b m = c.make_ready.ensures.home b m.home m.copied
 
-pub returns-in-Stop-clause-any_moment : goal.returns-in-Stop-clause-any_moment
-returns-in-Stop-clause-any_moment g c = λ told b m. left_alone g.D.Disk.told g.D.Disk.state b c.args.op.now c.args.p.now c.args.p.now refl m.home told (g.met.D.Disk.is_disk c.args.p.now.journal.0 told)
+pub returns-in_err-pass-clause-noted : goal.returns-in_err-pass-clause-noted
+returns-in_err-pass-clause-noted g c = λ b m.
+    let p = c.args.p.now in
+    by_stop (NotedIs g.D.Disk.told g.D.Disk.state b p p (plan_of c.args.op.now c.args.rolling.value c.args.bytes.now)) c.from_residual.result c.from_residual.ensures.0 (λ e. refl)
 
-pub returns-in-Stop-clause-acknowledged : goal.returns-in-Stop-clause-acknowledged
-returns-in-Stop-clause-acknowledged g c = λ told b h copied.
+pub returns-in_err-pass-clause-any_moment : goal.returns-in_err-pass-clause-any_moment
+returns-in_err-pass-clause-any_moment g c = λ told b m. left_alone g.D.Disk.told g.D.Disk.state b c.args.op.now c.args.p.now c.args.p.now refl m.home told (g.met.D.Disk.is_disk c.args.p.now.journal.0 told)
+
+pub returns-in_err-pass-clause-acknowledged : goal.returns-in_err-pass-clause-acknowledged
+returns-in_err-pass-clause-acknowledged g c = λ told b h copied.
     let a = c.args.p.now in
     keeps_counted (g.D.Disk.state a.journal.0) a.journal.1 b.fold.table a.matrix (g.D.Disk.state a.journal.0) (kept_now (g.D.Disk.state a.journal.0) a.journal.1 h.past.book (h.journal.keeps.kept told) (g.met.D.Disk.is_disk a.journal.0 told))
 
-pub returns-in-Stop-clause-short : goal.returns-in-Stop-clause-short
-returns-in-Stop-clause-short g c = λ _. spends_none 69 (g.D.Disk.state c.args.p.now.journal.0)
+pub returns-in_err-pass-clause-short : goal.returns-in_err-pass-clause-short
+returns-in_err-pass-clause-short g c = λ _. spends_none 69 (g.D.Disk.state c.args.p.now.journal.0)
 
 pub returns-in-Err-clause-noted : goal.returns-in-Err-clause-noted
 returns-in-Err-clause-noted g c = λ b m. (ready_home g c.before b m, within_limits g c.before b m, ⊎_elim (λ unmended. inl unmended) (λ none. inr (inl none)) c.in-Err.ensures.unready)
@@ -94,7 +102,7 @@ returns-in-Ok-append-clause-any_moment g c = λ told b m. appended_left g c.befo
 pub returns-in-Err-append-clause-any_moment : goal.returns-in-Err-append-clause-any_moment
 returns-in-Err-append-clause-any_moment g c = λ told b m. appended_left g c.before told b m
 
--- behind a journal that was made ready
+-- after a journal that was made ready
 appended_counted : (g : given.Over) (c : After-append g) → g.D.Disk.told → (b : Past) → IsHome g.D.Disk.told g.D.Disk.state b c.args.p.now → IsCopied b c.args.p.now → LeavesOnly (g.D.Disk.state c.args.p.now.journal.0) (g.D.Disk.state c.append.new.self.0) (IsCounted (g.D.Disk.state c.args.p.now.journal.0) c.args.p.now.journal.1 b.fold.table c.args.p.now.matrix)
 appended_counted g c told b h copied =
     let q = c.args.p.now in
@@ -156,10 +164,10 @@ appended_fault : (g : given.Over) (c : After-append g) (failed : Type 0) → (fa
 appended_fault g c failed rose = fault_on (g.D.Disk.state c.args.p.now.journal.0).faults (g.D.Disk.state c.make_ready.new.p.journal.0).faults (g.D.Disk.state c.append.new.self.0).faults failed c.make_ready.ensures.cause.later c.append.ensures.cause.later rose
 
 pub returns-in-Ok-append-clause-fault : goal.returns-in-Ok-append-clause-fault
-returns-in-Ok-append-clause-fault g c = appended_fault g c.before (noted.Rolling ≡ noted.Fault) (λ is. absurd (rolling_no_fault is))
+returns-in-Ok-append-clause-fault g c = appended_fault g c.before (◌≡◌ {A = Result Noted Stopped} (Ok noted.Rolling) (Ok noted.Fault)) (λ is. absurd (rolling_no_fault is))
 
 pub returns-in-Err-append-clause-fault : goal.returns-in-Err-append-clause-fault
-returns-in-Err-append-clause-fault g c = appended_fault g c.before (noted.Fault ≡ noted.Fault) (λ _. c.in-Err-append.ensures.cause.cause refl)
+returns-in-Err-append-clause-fault g c = appended_fault g c.before (◌≡◌ {A = Result Noted Stopped} (Ok noted.Fault) (Ok noted.Fault)) (λ _. c.in-Err-append.ensures.cause.cause refl)
 
 pub returns-in-Ok-append-clause-sound : goal.returns-in-Ok-append-clause-sound
 returns-in-Ok-append-clause-sound g c = λ _. rolling_no_fault

@@ -4,7 +4,7 @@ use Rattle.journal_core.specs.declared.book.Book.{Book}
 use Rattle.journal_core.specs.Headers.{Stands}
 use Rattle.journal_core.specs.Books.{listed}
 use Rattle.xc_recovery.specs.Replays.{Replays}
-use Rattle.xc_core.specs.declared.second.Second.{Second}
+use Rattle.xc_core.specs.declared.replayed.Replayed.{Replayed}
 use Rattle.xc_core.specs.Journals.{IsOldOrDoubted}
 use Rattle.xc_core.specs.Provisioners.{HasRoom}
 use Rattle.xc_core.proofs.Journalling.{looked_on}
@@ -14,7 +14,7 @@ use Rattle.xc_core.proofs.recovery.read.Given as given
 use Rattle.xc_core.proofs.recovery.read.Goals as goal
 
 pub returns-in-Err-clause-halted : goal.returns-in-Err-clause-halted
-returns-in-Err-clause-halted g c = λ b h. halted_failed g.D.Disk.told g.D.Disk.state b c.args.p.now h c.reread.new.self c.args.p.now.second c.reread.ensures.whole (ap (λ (x : Book). x.shape) c.in-Err.ensures.err) h.past.room c.in-Err.ensures.err (λ t. (c.in-Err.ensures.rereads t).kept)
+returns-in-Err-clause-halted g c = λ b h. halted_failed g.D.Disk.told g.D.Disk.state b c.args.p.now h c.reread.new.self c.args.p.now.replayed c.reread.ensures.whole (ap (λ (x : Book). x.shape) c.in-Err.ensures.err) h.past.room c.in-Err.ensures.err (λ t. (c.in-Err.ensures.rereads t).kept)
     (λ t. (c.in-Err.ensures.rereads t).err) (λ t. (c.in-Err.ensures.rereads t).doubt) (λ t. (c.in-Err.ensures.rereads t).lines)
 
 pub returns-in-Err-clause-any_moment : goal.returns-in-Err-clause-any_moment
@@ -36,31 +36,31 @@ anew g c = record {
   found = λ t. (c.in-Ok.ensures.rereads t).found;
 }
 
-second_read : (g : given.Over) (c : goal.After-replay g) → Second
-second_read g c = record c.args.p.now.second { matrix = c.replay.new.matrix; table = c.replay.new.table }
+replayed_read : (g : given.Over) (c : goal.After-replay g) → Replayed
+replayed_read g c = record c.args.p.now.replayed { matrix = c.replay.new.matrix; table = c.replay.new.table }
 
-room_read : (g : given.Over) (c : goal.After-replay g) → HasRoom c.args.p.now.journal.1.shape c.args.p.now.second → HasRoom c.args.p.now.journal.1.shape (second_read g c)
-unfolding second_read
+room_read : (g : given.Over) (c : goal.After-replay g) → HasRoom c.args.p.now.journal.1.shape c.args.p.now.replayed → HasRoom c.args.p.now.journal.1.shape (replayed_read g c)
+unfolding replayed_read
 room_read g c room =
     let is = c.replay.ensures.as_read in
     let mid = c.reread.new.self.1 in
-    read_room mid.shape mid.head is.0 c.replay.result c.replay.new.table c.replay.new.matrix c.args.p.now.second c.args.p.now.journal.1.shape c.in-Ok.ensures.ok.2 room is.2
+    read_room mid.shape mid.head is.0 c.replay.result c.replay.new.table c.replay.new.matrix c.args.p.now.replayed c.args.p.now.journal.1.shape c.in-Ok.ensures.ok.2 room is.2
 
 pub returns-clause-halted : goal.returns-clause-halted
-unfolding second_read
-returns-clause-halted g c = λ b h. anew_halted g.D.Disk.told g.D.Disk.state b c.args.p.now h c.reread.new.self c.replay.new.journal (second_read g c) (anew g c) (room_read g c h.past.room)
+unfolding replayed_read
+returns-clause-halted g c = λ b h. anew_halted g.D.Disk.told g.D.Disk.state b c.args.p.now h c.reread.new.self c.replay.new.journal (replayed_read g c) (anew g c) (room_read g c h.past.room)
 
 pub returns-clause-reads : goal.returns-clause-reads
-unfolding second_read
-returns-clause-reads g c = λ b h. anew_reads g.D.Disk.told g.D.Disk.state b c.args.p.now h c.reread.new.self c.replay.new.journal (second_read g c) (anew g c) (room_read g c h.past.room) c.replay.result
+unfolding replayed_read
+returns-clause-reads g c = λ b h. anew_reads g.D.Disk.told g.D.Disk.state b c.args.p.now h c.reread.new.self c.replay.new.journal (replayed_read g c) (anew g c) (room_read g c h.past.room) c.replay.result
     (lift_replay c.reread.new.self.1 c.replay.new.journal.1 c.replay.new.table c.replay.new.matrix c.replay.result c.replay.ensures.same c.replay.ensures.as_read)
     (lift_read g.D.Disk.told c.reread.new.self.1 c.replay.new.journal.1 (g.D.Disk.state c.reread.new.self.0).reads_as (g.D.Disk.state c.replay.new.journal.0).reads_as c.replay.new.table c.replay.new.matrix c.replay.result c.replay.ensures.same (λ t. (c.replay.ensures.looks t).same) c.replay.ensures.read)
 
 pub returns-clause-good : goal.returns-clause-good
-unfolding second_read
+unfolding replayed_read
 returns-clause-good g c = λ t i.
     let w = c.requires.halted in
-    anew_good g.D.Disk.told g.D.Disk.state w.0 c.args.p.now w.1 c.reread.new.self c.replay.new.journal (second_read g c) (anew g c) (room_read g c w.1.past.room) t c.replay.result i
+    anew_good g.D.Disk.told g.D.Disk.state w.0 c.args.p.now w.1 c.reread.new.self c.replay.new.journal (replayed_read g c) (anew g c) (room_read g c w.1.past.room) t c.replay.result i
     (subst (λ (x : Book × List ℕ). Replays x.0.shape x.0.head (listed x.0 x.1) c.replay.result c.replay.new.table c.replay.new.matrix) (λ k. (sym c.replay.ensures.same k, sym (c.replay.ensures.looks t).same k)) (c.replay.ensures.told t))
 
 pub returns-clause-any_moment : goal.returns-clause-any_moment

@@ -32,7 +32,7 @@ end_recovery-lacking-requires-clause-done g c =
     let w = c.requires.restart in
     let v : Driver g.row.D.Denot = c.deref_mut-held.result.now in
     let resumes = subst (λ (x : Driver g.row.D.Denot). Resumes g.D.Disk.told g.D.Disk.state w.6.out.now w.6.lacking w.6.behind x.p x.rolling) (sym c.deref_mut-held.ensures.value) w.6.resumes in
-    alone_left g.D.Disk.told g.D.Disk.state w.6.out.now v.p.second.matrix v.p.mover.mover v.rolling resumes.on_way.alone ∙ (ap (λ (x : Driver g.row.D.Denot). rest_of x.rolling) c.deref_mut-held.ensures.value ∙ c.requires.done)
+    alone_left g.D.Disk.told g.D.Disk.state w.6.out.now v.p.replayed.matrix v.p.mover.mover v.rolling resumes.on_way.alone ∙ (ap (λ (x : Driver g.row.D.Denot). rest_of x.rolling) c.deref_mut-held.ensures.value ∙ c.requires.done)
 
 pub returns-clause-restarted : goal.returns-clause-restarted
 returns-clause-restarted g c = λ o own h asked st taken.

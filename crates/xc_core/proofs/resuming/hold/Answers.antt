@@ -45,7 +45,7 @@ returns-clause-held g c = λ o own h st.
     let v : Driver g.row.D.Denot = c.deref_mut-held.result.now in
     let was : Boxed g.row.D.Denot = with_value driver v in
     let is = held_home g.D.Disk.told g.D.Disk.state g.met.D.Disk.counts_on o s h st driver v c.deref_mut-held.ensures.value c.in-Some.ensures.found in
-    let left : Boxed g.row.D.Denot = with_value driver (record v { p = record v.p { second = record v.p.second { expected = c.copy_from.new.self } } }) in
+    let left : Boxed g.row.D.Denot = with_value driver (record v { p = record v.p { replayed = record v.p.replayed { expected = c.copy_from.new.self } } }) in
     subst (λ (x : State g.row.D.Denot). HeldIs g.D.Disk.told g.D.Disk.state o own h c.args.asked.now x (held.Held left)) (sym c.in-Some.ensures.state)
     (was_taken g.D.Disk.told g.D.Disk.state g.met.D.Disk.counts_on o s h st was is own c.args.asked.now (c.if-not-goes_for.ensures.0 refl) c.copy_from.new.self (c.copy_from.ensures ∙ ap (λ (x : State g.row.D.Denot). x.table) c.in-Some.ensures.state) left refl)
 

@@ -31,14 +31,14 @@ returns-clause-settled g c = λ ready. (
 pub returns-then-halted-clause-settled : goal.returns-then-halted-clause-settled
 returns-then-halted-clause-settled g c = λ ready. absurd (let e : true ≡ false = sym c.if-halted.true ∙ (c.halted.ensures ∙ ready) in cc)
 
-pub returns-clause-second : goal.returns-clause-second
-returns-clause-second g c = ap (λ (x : Provisioner g.row.D.Denot). x.second) c.halt.ensures ∙ ap (λ (x : Provisioner g.row.D.Denot). x.second) c.settle.ensures.others
+pub returns-clause-replayed : goal.returns-clause-replayed
+returns-clause-replayed g c = ap (λ (x : Provisioner g.row.D.Denot). x.replayed) c.halt.ensures ∙ ap (λ (x : Provisioner g.row.D.Denot). x.replayed) c.settle.ensures.others
 
 pub returns-clause-mover : goal.returns-clause-mover
 returns-clause-mover g c = ap (λ (x : Provisioner g.row.D.Denot). x.mover) c.halt.ensures ∙ ap (λ (x : Provisioner g.row.D.Denot). x.mover) c.settle.ensures.others
 
-pub returns-in_err-settle-clause-second : goal.returns-in_err-settle-clause-second
-returns-in_err-settle-clause-second g c = ap (λ (x : Provisioner g.row.D.Denot). x.second) c.settle.ensures.others
+pub returns-in_err-settle-clause-replayed : goal.returns-in_err-settle-clause-replayed
+returns-in_err-settle-clause-replayed g c = ap (λ (x : Provisioner g.row.D.Denot). x.replayed) c.settle.ensures.others
 
 pub returns-in_err-settle-clause-mover : goal.returns-in_err-settle-clause-mover
 returns-in_err-settle-clause-mover g c = ap (λ (x : Provisioner g.row.D.Denot). x.mover) c.settle.ensures.others

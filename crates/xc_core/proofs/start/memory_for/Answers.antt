@@ -10,5 +10,5 @@ returns c = record {
   table = ap (λ (t : Board). t.shape) c.in_ok-table.ensures ∙ c.shape-shape.ensures;
   matrix = ap (λ (m : Colouring). m.shape) c.in_ok-matrix.ensures ∙ c.shape-shape.ensures;
   fresh = c.in_ok-reports.ensures;
-  room = subst (λ (d : Dimensions). HasRoom d c.in_ok-second.second) c.shape-shape.ensures c.in_ok-second.ensures;
+  room = subst (λ (d : Dimensions). HasRoom d c.in_ok-replayed.replayed) c.shape-shape.ensures c.in_ok-replayed.ensures;
 }

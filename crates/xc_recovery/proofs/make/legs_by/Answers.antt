@@ -1,4 +1,4 @@
-use Rattle.std.proofs.Common.{sym, subst, ◌≡◌, ◌∙◌, ap, arith, ◌+◌, List}
+use Rattle.std.proofs.Common.{sym, subst, arith, ◌+◌, List}
 use Rattle.roll_plan.specs.declared.op.LegOp.{LegOp}
 use Rattle.paull_matrix.specs.Colourings.{Colouring}
 use Rattle.xc_recovery.proofs.Making.{IsMidway, at_first, all_done, may_make, one_more}

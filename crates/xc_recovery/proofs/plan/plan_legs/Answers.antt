@@ -1,4 +1,4 @@
-use Rattle.std.proofs.Common.{sym, subst, ◌≡◌, ◌+◌, arith, List}
+use Rattle.std.proofs.Common.{sym, subst, ◌+◌, arith, List}
 use Rattle.roll_plan.specs.declared.op.LegOp.{LegOp}
 use Rattle.paull_matrix.specs.Colourings.{Colouring}
 use Rattle.xc_recovery.proofs.Planning.{IsPlanning, plan_done, plan_may, plan_more}

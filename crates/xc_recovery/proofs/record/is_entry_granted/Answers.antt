@@ -1,4 +1,4 @@
-use Rattle.std.proofs.Common.{◌≡◌, ◌↔◌, ◌∙◌, is_ok, IsTrue, subst, sym, Bool}
+use Rattle.std.proofs.Common.{◌↔◌, IsTrue, subst, sym, Bool}
 use Rattle.dxc_model.specs.declared.op.Change.TheVariants.{Enter}
 use Rattle.dxc_model.specs.Verdicts.{MayTake}
 use Rattle.xc_recovery.proofs.Once.{entry_granted}

@@ -1,8 +1,6 @@
-use Rattle.std.proofs.Common.{◌≡◌, ◌∙◌, sym, subst, Ok, Some}
+use Rattle.std.proofs.Common.{subst}
 use Rattle.dxc_model.specs.declared.op.Op.{Op}
-use Rattle.dxc_model.specs.declared.op.Change.{Change}
 use Rattle.dxc_model.specs.Operations.{op_of as named_op}
-use Rattle.dxc_model.specs.Tables.{Board}
 use Rattle.dxc_model.specs.Verdicts.{Grants}
 use Rattle.xc_recovery.proofs.Once.{granted_once}
 use Rattle.xc_recovery.proofs.record.is_granted.Goals as goal

@@ -1,6 +1,6 @@
 use Rattle.std.proofs.Common.{List, refl, ◌∙◌, ap, subst}
 use Rattle.std.specs.Arc.{arc_value}
-use Rattle.turnstile.specs.Passing.{Gate}
+use Rattle.turnstile.specs.Passing.{TurnstileView}
 use Rattle.dxc_model.specs.declared.op.Op.TheVariants.{Look}
 use Rattle.dxc_model.specs.declared.entry.Outcome.TheVariants.{Answered}
 use Rattle.dxc_model.specs.declared.entry.Entry.{Entry}
@@ -24,10 +24,10 @@ invariant_of-self g c =
 
 pub returns-clause-inventory : goal.returns-clause-inventory
 returns-clause-inventory g c =
-    let eq = ap (λ (t : Gate (State g.row.D.Denot)). seat_at g.D.Disk.state c.self.inside.pass t) c.deref.ensures ∙ c.self.view_is in
+    let eq = ap (λ (t : TurnstileView (State g.row.D.Denot)). seat_at g.D.Disk.state c.self.inside.pass t) c.deref.ensures ∙ c.self.view_is in
     subst (λ (s : SeatAt). (h : List Entry) → Saw s.opening s.seen h → InventoryIs s.opening s.place h c.read_inventory.new.pass.seen c.read_inventory.result) eq c.read_inventory.ensures.inventory
 
 pub returns-clause-of_shape : goal.returns-clause-of_shape
 returns-clause-of_shape g c =
-    let eq = ap (λ (t : Gate (State g.row.D.Denot)). seat_at g.D.Disk.state c.self.inside.pass t) c.deref.ensures ∙ c.self.view_is in
+    let eq = ap (λ (t : TurnstileView (State g.row.D.Denot)). seat_at g.D.Disk.state c.self.inside.pass t) c.deref.ensures ∙ c.self.view_is in
     subst (λ (s : SeatAt). IsInventoryOf s.opening.first.fold.table.shape c.read_inventory.result) eq c.read_inventory.ensures.of_shape

@@ -1,6 +1,6 @@
 use Rattle.std.proofs.Common.{List, refl, ◌∙◌, ap, subst}
 use Rattle.std.specs.Arc.{arc_value}
-use Rattle.turnstile.specs.Passing.{Gate}
+use Rattle.turnstile.specs.Passing.{TurnstileView}
 use Rattle.dxc_model.specs.declared.op.Op.TheVariants.{Look}
 use Rattle.dxc_model.specs.declared.entry.Outcome.TheVariants.{Answered}
 use Rattle.dxc_model.specs.declared.entry.Entry.{Entry}
@@ -28,11 +28,11 @@ invariant_of-self g c =
 
 pub returns-clause-look : goal.returns-clause-look
 returns-clause-look g c =
-    let eq = ap (λ (t : Gate (State g.row.D.Denot)). seat_at g.D.Disk.state c.self.inside.pass t) c.deref.ensures ∙ c.self.view_is in
+    let eq = ap (λ (t : TurnstileView (State g.row.D.Denot)). seat_at g.D.Disk.state c.self.inside.pass t) c.deref.ensures ∙ c.self.view_is in
     subst (λ (s : SeatAt). (h : List Entry) → Saw s.opening s.seen h → LookIs s.opening s.place h c.args.cursor c.look.new.pass.seen c.look.result c.look.new.into.items) eq c.look.ensures.look
 
 pub returns-clause-of_shape : goal.returns-clause-of_shape
 returns-clause-of_shape g c =
-    let eq = ap (λ (t : Gate (State g.row.D.Denot)). seat_at g.D.Disk.state c.self.inside.pass t) c.deref.ensures ∙ c.self.view_is in
+    let eq = ap (λ (t : TurnstileView (State g.row.D.Denot)). seat_at g.D.Disk.state c.self.inside.pass t) c.deref.ensures ∙ c.self.view_is in
     subst (λ (d : Dimensions). AllByRecursion (IsChangeOf d) c.look.new.into.items) (ap (λ (s : SeatAt). s.opening.first.fold.table.shape) eq)
     (apt_changes (opening_of g.D.Disk.state c.deref.result.now.first).first.fold.table.shape c.look.new.into.items c.look.ensures.apt)

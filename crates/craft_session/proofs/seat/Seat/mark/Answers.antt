@@ -1,6 +1,6 @@
 use Rattle.std.proofs.Common.{List, refl, ◌∙◌, ap, subst}
 use Rattle.std.specs.Arc.{arc_value}
-use Rattle.turnstile.specs.Passing.{Gate}
+use Rattle.turnstile.specs.Passing.{TurnstileView}
 use Rattle.dxc_model.specs.declared.op.Op.TheVariants.{Look}
 use Rattle.dxc_model.specs.declared.entry.Outcome.TheVariants.{Answered}
 use Rattle.dxc_model.specs.declared.entry.Entry.{Entry}
@@ -24,5 +24,5 @@ invariant_of-self g c =
 
 pub returns-clause-mark : goal.returns-clause-mark
 returns-clause-mark g c =
-    let eq = ap (λ (t : Gate (State g.row.D.Denot)). seat_at g.D.Disk.state c.self.inside.pass t) c.deref.ensures ∙ c.self.view_is in
+    let eq = ap (λ (t : TurnstileView (State g.row.D.Denot)). seat_at g.D.Disk.state c.self.inside.pass t) c.deref.ensures ∙ c.self.view_is in
     subst (λ (s : SeatAt). (h : List Entry) → Saw s.opening s.seen h → MarkIs s.opening s.place h c.mark.new.pass.seen c.mark.result) eq c.mark.ensures.mark

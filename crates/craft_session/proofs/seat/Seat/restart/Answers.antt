@@ -1,6 +1,6 @@
 use Rattle.std.proofs.Common.{false, List, ◌∙◌, ap, subst}
 use Rattle.std.specs.Arc.{arc_value}
-use Rattle.turnstile.specs.Passing.{Gate}
+use Rattle.turnstile.specs.Passing.{TurnstileView}
 use Rattle.dxc_model.specs.declared.entry.Entry.{Entry}
 use Rattle.xc_core.specs.declared.state.State.{State}
 use Rattle.xc_core.specs.Seeing.{Saw}
@@ -23,10 +23,10 @@ invariant_of-self g c =
 
 pub returns-clause-entered : goal.returns-clause-entered
 returns-clause-entered g c =
-    let eq = ap (λ (t : Gate (State g.row.D.Denot)). seat_at g.D.Disk.state c.self.inside.pass t) c.deref-turns.ensures ∙ c.self.view_is in
+    let eq = ap (λ (t : TurnstileView (State g.row.D.Denot)). seat_at g.D.Disk.state c.self.inside.pass t) c.deref-turns.ensures ∙ c.self.view_is in
     subst (λ (s : SeatAt). (h : List Entry) → Saw s.opening s.seen h → Entered s.opening s.place (g.G.Gate.asked c.args.gate.now c.warm_restart-restarted.new.gate) false false h c.warm_restart-restarted.new.pass.seen) eq c.warm_restart-restarted.ensures.entered
 
 pub returns-clause-restarted : goal.returns-clause-restarted
 returns-clause-restarted g c =
-    let eq = ap (λ (t : Gate (State g.row.D.Denot)). seat_at g.D.Disk.state c.self.inside.pass t) c.deref-turns.ensures ∙ c.self.view_is in
+    let eq = ap (λ (t : TurnstileView (State g.row.D.Denot)). seat_at g.D.Disk.state c.self.inside.pass t) c.deref-turns.ensures ∙ c.self.view_is in
     subst (λ (s : SeatAt). (h : List Entry) → Saw s.opening s.seen h → WarmRestartIs s.opening s.place h c.warm_restart-restarted.new.pass.seen c.warm_restart-restarted.result) eq c.warm_restart-restarted.ensures.restarted

@@ -1,6 +1,6 @@
 use Rattle.std.proofs.Common.{List, refl, sym, ◌∙◌, ap, subst}
 use Rattle.std.specs.Arc.{arc_value}
-use Rattle.turnstile.specs.Passing.{Gate}
+use Rattle.turnstile.specs.Passing.{TurnstileView}
 use Rattle.dxc_model.specs.declared.op.Op.TheVariants.{Rows}
 use Rattle.dxc_model.specs.declared.entry.Outcome.TheVariants.{Answered}
 use Rattle.dxc_model.specs.declared.entry.Entry.{Entry}
@@ -29,12 +29,12 @@ invariant_of-self g c =
 
 pub returns-clause-rows : goal.returns-clause-rows
 returns-clause-rows g c =
-    let eq = ap (λ (t : Gate (State g.row.D.Denot)). seat_at g.D.Disk.state c.self.inside.pass t) c.deref.ensures ∙ c.self.view_is in
+    let eq = ap (λ (t : TurnstileView (State g.row.D.Denot)). seat_at g.D.Disk.state c.self.inside.pass t) c.deref.ensures ∙ c.self.view_is in
     subst (λ (s : SeatAt). (h : List Entry) → Saw s.opening s.seen h → RowsAre s.opening s.place h c.args.selection c.rows.new.pass.seen c.rows.new.into.items) eq c.rows.ensures.rows
 
 pub returns-clause-of_shape : goal.returns-clause-of_shape
 returns-clause-of_shape g c =
-    let eq = ap (λ (t : Gate (State g.row.D.Denot)). seat_at g.D.Disk.state c.self.inside.pass t) c.deref.ensures ∙ c.self.view_is in
+    let eq = ap (λ (t : TurnstileView (State g.row.D.Denot)). seat_at g.D.Disk.state c.self.inside.pass t) c.deref.ensures ∙ c.self.view_is in
     let t = c.rows.ensures.table in
     subst (λ (d : Dimensions). AllByRecursion (IsOfShape d) c.rows.new.into.items) (t.2 ∙ ap (λ (s : SeatAt). s.opening.first.fold.table.shape) eq)
     (subst (λ (l : List Conn). AllByRecursion (IsOfShape t.0.shape) l) (sym {A = List Conn} t.3) (listed t.0.shape _ t.0.conns t.1.ports))

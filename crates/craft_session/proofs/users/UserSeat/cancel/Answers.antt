@@ -1,10 +1,10 @@
 use Rattle.std.proofs.Common.{List, ◌∙◌, ap, subst}
 use Rattle.std.specs.Arc.{arc_value}
-use Rattle.turnstile.specs.Passing.{Gate}
+use Rattle.turnstile.specs.Passing.{TurnstileView}
 use Rattle.user_admin.specs.declared.op.UserEntry.{UserEntry}
 use Rattle.user_admin.specs.declared.op.UserOutcome.TheVariants.{Answered}
 use Rattle.user_admin.specs.declared.shared.SharedUsers.{SharedUsers}
-use Rattle.user_admin.specs.declared.op.UserOp.TheVariants.{Cancel}
+use Rattle.tl1_users.specs.declared.op.UserOp.TheVariants.{Cancel}
 use Rattle.user_admin.specs.Shared.{opening_at}
 use Rattle.user_admin.specs.States.{entry}
 use Rattle.user_admin.specs.Turns.{Cancels, Saw}
@@ -23,5 +23,5 @@ invariant_of-self g c =
 
 pub returns-clause-cancelled : goal.returns-clause-cancelled
 returns-clause-cancelled g c =
-    let eq = ap (λ (t : Gate (SharedUsers g.row.U.Denot)). user_seat_at g.U.Disk.state c.self.inside.pass t) c.deref.ensures ∙ c.self.view_is in
+    let eq = ap (λ (t : TurnstileView (SharedUsers g.row.U.Denot)). user_seat_at g.U.Disk.state c.self.inside.pass t) c.deref.ensures ∙ c.self.view_is in
     subst (λ (s : UserSeatAt). (h : List UserEntry) → Saw s.opening s.seen h → Cancels s.opening s.place h c.args.uid c.cancel.new.pass.seen) eq c.cancel.ensures.cancelled

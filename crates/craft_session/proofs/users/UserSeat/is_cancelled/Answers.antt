@@ -1,6 +1,6 @@
 use Rattle.std.proofs.Common.{List, ◌++◌, ◌∙◌, ap, subst}
 use Rattle.std.specs.Arc.{arc_value}
-use Rattle.turnstile.specs.Passing.{Gate}
+use Rattle.turnstile.specs.Passing.{TurnstileView}
 use Rattle.user_admin.specs.declared.op.UserEntry.{UserEntry}
 use Rattle.user_admin.specs.declared.shared.SharedUsers.{SharedUsers}
 use Rattle.user_admin.specs.Shared.{opening_at}
@@ -20,5 +20,5 @@ invariant_of-self g c =
 
 pub returns-clause-looked : goal.returns-clause-looked
 returns-clause-looked g c =
-    let eq = ap (λ (t : Gate (SharedUsers g.row.U.Denot)). user_seat_at g.U.Disk.state c.self.inside.pass t) c.deref.ensures ∙ c.self.view_is in
+    let eq = ap (λ (t : TurnstileView (SharedUsers g.row.U.Denot)). user_seat_at g.U.Disk.state c.self.inside.pass t) c.deref.ensures ∙ c.self.view_is in
     subst (λ (s : UserSeatAt). (h : List UserEntry) → Saw s.opening s.seen h → LookedAt s.opening s.place h c.is_cancelled.new.pass.seen c.is_cancelled.result) eq c.is_cancelled.ensures.looked

@@ -1,6 +1,6 @@
 use Rattle.std.proofs.Common.{List, ◌∙◌, ap, subst}
 use Rattle.std.specs.Arc.{arc_value}
-use Rattle.turnstile.specs.Passing.{Gate}
+use Rattle.turnstile.specs.Passing.{TurnstileView}
 use Rattle.user_admin.specs.declared.op.UserEntry.{UserEntry}
 use Rattle.user_admin.specs.declared.op.UserOutcome.TheVariants.{Answered}
 use Rattle.user_admin.specs.declared.shared.SharedUsers.{SharedUsers}
@@ -23,5 +23,5 @@ invariant_of-self g c =
 
 pub returns-clause-logged : goal.returns-clause-logged
 returns-clause-logged g c =
-    let eq = ap (λ (t : Gate (SharedUsers g.row.U.Denot)). user_seat_at g.U.Disk.state c.self.inside.pass t) c.deref.ensures ∙ c.self.view_is in
+    let eq = ap (λ (t : TurnstileView (SharedUsers g.row.U.Denot)). user_seat_at g.U.Disk.state c.self.inside.pass t) c.deref.ensures ∙ c.self.view_is in
     subst (λ (s : UserSeatAt). (h : List UserEntry) → Saw s.opening s.seen h → LoggedIn s.opening s.place h (record { vacant = c.args.vacant; uid = c.args.uid; pid = c.args.pid.now }) c.login.new.pass.seen c.login.result) eq c.login.ensures.logged

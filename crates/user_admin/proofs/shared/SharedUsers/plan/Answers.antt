@@ -12,8 +12,8 @@ returns-in-Err-clause-planned g c = λ o own ms st. shared_denied g.D.Disk.told 
 pub returns-in-Err-clause-asked : goal.returns-in-Err-clause-asked
 returns-in-Err-clause-asked g c = subst (λ (places : List GatePlace). g.G.Gate.asked c.args.gate.now c.args.gate.now places) (sym (asked_none c.args.op.now c.args.self.now.list c.in-Err.cause c.in-Err.ensures)) (g.G.Gate.unasked c.args.gate.now)
 
-pub returns-in-Go-clause-planned : goal.returns-in-Go-clause-planned
-returns-in-Go-clause-planned g c = λ o own ms st.
+pub returns-in-Ok-pass-clause-planned : goal.returns-in-Ok-pass-clause-planned
+returns-in-Ok-pass-clause-planned g c = λ o own ms st.
     let is = sym c.in-Some.ensures.value in (
       subst (λ (x : Option (Boxed g.row.D.Denot)). SharedFor g.D.Disk.told g.D.Disk.state o (record c.args.self.now { keeper = x }) (ms ++ Took own ∷ [])) (sym c.replace.ensures.after) (shared_taken g.D.Disk.told g.D.Disk.state (λ d told. g.met.D.Disk.is_disk d told) (λ d. g.met.D.Disk.counts_on d) o ms c.args.self.now st c.in-Some.keeper is own),
       keeper_taken g.D.Disk.told g.D.Disk.state (λ d told. g.met.D.Disk.is_disk d told) (λ d. g.met.D.Disk.counts_on d) o ms c.args.self.now st c.in-Some.keeper is own c.args.op.now c.in-Ok.change c.in-Ok.ensures,

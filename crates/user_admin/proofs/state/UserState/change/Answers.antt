@@ -24,8 +24,8 @@ returns-in-Err-clause-fault g c = record { later = omega arith; cause = λ same.
 pub returns-in-Err-clause-sound : goal.returns-in-Err-clause-sound
 returns-in-Err-clause-sound g c = λ sound same. other_than_disk c.args.op.now c.deref-lists.result.now.users c.in-Err.cause c.in-Err.ensures same
 
-pub returns-in-Stop-clause-any_moment : goal.returns-in-Stop-clause-any_moment
-returns-in-Stop-clause-any_moment g c = λ told o h st. let s = c.args.self.now in none_left g.D.Disk.told g.D.Disk.state o s h st told (g.met.D.Disk.is_disk s.journal.0 told) c.args.op.now
+pub returns-in_err-pass-clause-any_moment : goal.returns-in_err-pass-clause-any_moment
+returns-in_err-pass-clause-any_moment g c = λ told o h st. let s = c.args.self.now in none_left g.D.Disk.told g.D.Disk.state o s h st told (g.met.D.Disk.is_disk s.journal.0 told) c.args.op.now
 
 pub note-requires : goal.note-requires
 note-requires g c = let w = c.requires.stands in record { may = (w.0, w.1, c.args.op.now, record { stands = w.2; names = c.requires.named; granted = subst (λ (x : Lists). Grants c.args.self.now.sid c.args.op.now x.users c.in-Ok.change) c.deref-lists.ensures c.in-Ok.ensures }) }
@@ -45,5 +45,5 @@ returns-in-Err-note-clause-any_moment g c = λ told o h st. c.note.ensures.any_m
 pub returns-in-Err-clause-short : goal.returns-in-Err-clause-short
 returns-in-Err-clause-short g c = λ _. spends_none 69 (g.D.Disk.state c.args.self.now.journal.0)
 
-pub returns-in-Stop-clause-short : goal.returns-in-Stop-clause-short
-returns-in-Stop-clause-short g c = λ _. spends_none 69 (g.D.Disk.state c.args.self.now.journal.0)
+pub returns-in_err-pass-clause-short : goal.returns-in_err-pass-clause-short
+returns-in_err-pass-clause-short g c = λ _. spends_none 69 (g.D.Disk.state c.args.self.now.journal.0)

@@ -16,16 +16,16 @@ use Rattle.xc_core.proofs.Opened.{home_disk, last_start, matrix_shape}
 use Rattle.xc_core.proofs.opening.Core.adopt.Given as given
 use Rattle.xc_core.proofs.opening.Core.adopt.Goals as goal
 
-pub switches_behind-found-requires-clause-own : goal.switches_behind-found-requires-clause-own
-switches_behind-found-requires-clause-own g c = ap (λ (p : Provisioner g.row.D.Denot). p.mover.fabric) c.in-Ok.ensures.ok.held ∙ c.requires.own
+pub switches_after-found-requires-clause-own : goal.switches_after-found-requires-clause-own
+switches_after-found-requires-clause-own g c = ap (λ (p : Provisioner g.row.D.Denot). p.mover.fabric) c.in-Ok.ensures.ok.held ∙ c.requires.own
 
-pub switches_behind-found-requires-clause-shape : goal.switches_behind-found-requires-clause-shape
-switches_behind-found-requires-clause-shape g c =
+pub switches_after-found-requires-clause-shape : goal.switches_after-found-requires-clause-shape
+switches_after-found-requires-clause-shape g c =
     let r = c.in-Ok.ensures.ok in
     matrix_shape g.D.Disk.told g.D.Disk.state c.args.shelf.now (g.D.Disk.state c.args.disk) c.args.mover c.in-Ok.read r (λ told. g.met.D.Disk.is_disk r.journal.0 told) ∙ sym c.requires.shape
 
-pub switches_behind-found-requires-clause-made : goal.switches_behind-found-requires-clause-made
-switches_behind-found-requires-clause-made g c =
+pub switches_after-found-requires-clause-made : goal.switches_after-found-requires-clause-made
+switches_after-found-requires-clause-made g c =
     let r = c.in-Ok.ensures.ok in
     last_start g.D.Disk.told g.D.Disk.state c.args.shelf.now (g.D.Disk.state c.args.disk) c.args.mover c.in-Ok.read r (λ told. g.met.D.Disk.is_disk r.journal.0 told)
 
@@ -33,7 +33,7 @@ switches_behind-found-requires-clause-made g c =
 behind : (g : given.Over) (c : goal.After-begun g) → c.in-Ok-house.housed.driver.value.p ≡ record (c.in-Ok.read.p) { halted = true; spent = c.in-Some.switches }
 behind g c =
     let x = c.in-Ok.read in
-    let found = c.switches_behind-found in
+    let found = c.switches_after-found in
     let n = c.in-Some.switches in
     let still : record (x.p) { matrix = found.new.matrix; mover = found.new.mover; halted = true; spent = n } ≡ record (x.p) { halted = true; spent = n } = λ i. record (x.p) { matrix = found.ensures.matrix i; mover = found.ensures.mover i; halted = true; spent = n } in
     c.in-Ok-house.ensures.p ∙ c.halt_at.ensures ∙ still
@@ -44,7 +44,7 @@ returns-clause-state g c =
     let r = c.in-Ok.ensures.ok in
     let h = c.in-Ok-house.housed in
     let k = c.in-Ok-house.ensures in
-    let found = c.switches_behind-found in
+    let found = c.switches_after-found in
     let n = c.in-Some.switches in
     let limits : IsInLimits c.args.shelf.now.shape = subst IsInLimits c.requires.shape found.ensures.sized.shape in
     let on = subst (λ (w : FabricId × Mover). IsOnLast w.0.size w.1 x.last.ops.items x.p.matrix n) (λ i. (sym c.requires.own i, ap (λ (p : Provisioner g.row.D.Denot). p.mover.mover) r.held i)) c.in-Some.ensures.switches in
@@ -78,7 +78,7 @@ pub returns-in_default-clause-strange : goal.returns-in_default-clause-strange
 returns-in_default-clause-strange g c =
     let x = c.in-Ok.read in
     let r = c.in-Ok.ensures.ok in
-    let found = c.switches_behind-found in
+    let found = c.switches_after-found in
     let limits : IsInLimits c.args.shelf.now.shape = subst IsInLimits c.requires.shape found.ensures.sized.shape in
     let off = subst (λ (w : FabricId × Mover). IsOffLast w.0.size w.1 x.last.ops.items x.p.matrix) (λ i. (sym c.requires.own i, ap (λ (p : Provisioner g.row.D.Denot). p.mover.mover) r.held i)) c.in_default.ensures.switches in (
       c.release-disk.ensures.mover ∙ found.ensures.mover ∙ ap (λ (p : Provisioner g.row.D.Denot). p.mover) r.held,

@@ -1,4 +1,4 @@
-use Rattle.std.proofs.Common.{◌≡◌, length, ap, subst, sym, ◌∙◌}
+use Rattle.std.proofs.Common.{◌≡◌, length, refl, ap, subst, sym, ◌∙◌}
 use Rattle.std.specs.Prelude.{IfSome, replicate}
 use Rattle.std.specs.Box.{with_value}
 use Rattle.dxc_outside.specs.declared.gate.GatePlace.TheVariants.{Register}
@@ -43,7 +43,7 @@ join_all-requires-clause-proper g c =
     let r = c.in-Ok.ensures.ok in
     subst IsProperColouring (sym (ap (λ (p : Provisioner g.row.D.Denot). p.matrix) e)) (matrix_proper g.D.Disk.told g.D.Disk.state c.args.shelf.now (g.D.Disk.state c.args.disk) c.args.mover c.in-Ok.read r (λ told. g.met.D.Disk.is_disk r.journal.0 told))
 
--- the box behind the joins, as its origin has it
+-- the box after the joins, as its origin has it
 abbrev joined_in : (g : given.Over) → goal.After-begun g → Boxed g.row.D.Denot
 joined_in g c = with_value c.in-Ok-house.housed.driver (record { p = c.join_all.new.p; rolling = c.deref_mut.result.now.rolling })
 
@@ -53,7 +53,7 @@ returns-clause-ok g c =
     let r = c.in-Ok.ensures.ok in
     let k = c.in-Ok-house.ensures in
     let e = ap (λ (y : Driver g.row.D.Denot). y.p) c.deref_mut.ensures.value ∙ k.p in
-    let joined = c.join_all.ensures.joined c.in-Go.is in
+    let joined = c.in-Ok-join_all.ensures.joined refl in
     let q = c.join_all.new.p in
     let d = joined_in g c in
     let rest = subst (λ (w : Colouring × FabricId). IsAtRestOn w.1.size w.0 q.mover.mover) (λ i. (ap (λ (y : Provisioner g.row.D.Denot). y.matrix) e i, sym joined.0 i)) joined.1 in
@@ -81,7 +81,7 @@ returns-clause-any_moment g c told = at_home g c (λ d. LeavesOpened c.args.shel
 
 pub returns-clause-asked : goal.returns-clause-asked
 returns-clause-asked g c = subst (λ (m : Colouring). g.G.Gate.asked c.args.gate.now c.join_all.new.gate (replicate (length (joins_of m)) Register))
-    (sym (ap (λ (x : Provisioner g.row.D.Denot). x.matrix) (c.begun.ensures.provisioner ∙ c.join_all.ensures.others))) (c.join_all.ensures.asked c.in-Go.is)
+    (sym (ap (λ (x : Provisioner g.row.D.Denot). x.matrix) (c.begun.ensures.provisioner ∙ c.join_all.ensures.others))) (c.in-Ok-join_all.ensures.asked refl)
 
 pub returns-clause-room : goal.returns-clause-room
 returns-clause-room g c = at_home g c (λ d. Spends 131_081 (g.D.Disk.state c.args.disk) (g.D.Disk.state d)) c.in-Ok.ensures.room
@@ -117,14 +117,14 @@ stopped_with g c P is =
     let journal = ap (λ (p : Provisioner g.row.D.Denot). p.journal.0) (c.join_all.ensures.others ∙ ap (λ (y : Provisioner g.row.D.Denot). record y { mover = c.join_all.new.p.mover; spent = c.join_all.new.p.spent }) (ap (λ (x : Driver g.row.D.Denot). x.p) c.deref_mut.ensures.value ∙ c.in-Ok-house.ensures.p)) in
     subst P (sym (c.unhoused.ensures ∙ journal)) is
 
-pub returns-in-Stop-clause-any_moment : goal.returns-in-Stop-clause-any_moment
-returns-in-Stop-clause-any_moment g c told = stopped_with g c (λ d. LeavesOpened c.args.shelf.now (g.D.Disk.state c.args.disk) (g.D.Disk.state d)) (c.in-Ok.ensures.any_moment told)
+pub returns-in-Err-join_all-clause-any_moment : goal.returns-in-Err-join_all-clause-any_moment
+returns-in-Err-join_all-clause-any_moment g c told = stopped_with g c (λ d. LeavesOpened c.args.shelf.now (g.D.Disk.state c.args.disk) (g.D.Disk.state d)) (c.in-Ok.ensures.any_moment told)
 
-pub returns-in-Stop-clause-passing : goal.returns-in-Stop-clause-passing
-returns-in-Stop-clause-passing g c told = stopped_with g c (λ d. KeepsPassing c.args.shelf.now (g.D.Disk.state c.args.disk) (g.D.Disk.state d)) (c.in-Ok.ensures.passing told)
+pub returns-in-Err-join_all-clause-passing : goal.returns-in-Err-join_all-clause-passing
+returns-in-Err-join_all-clause-passing g c told = stopped_with g c (λ d. KeepsPassing c.args.shelf.now (g.D.Disk.state c.args.disk) (g.D.Disk.state d)) (c.in-Ok.ensures.passing told)
 
-pub returns-in-Stop-clause-room : goal.returns-in-Stop-clause-room
-returns-in-Stop-clause-room g c = stopped_with g c (λ d. Spends 131_081 (g.D.Disk.state c.args.disk) (g.D.Disk.state d)) c.in-Ok.ensures.room
+pub returns-in-Err-join_all-clause-room : goal.returns-in-Err-join_all-clause-room
+returns-in-Err-join_all-clause-room g c = stopped_with g c (λ d. Spends 131_081 (g.D.Disk.state c.args.disk) (g.D.Disk.state d)) c.in-Ok.ensures.room
 
-pub returns-in-Stop-clause-cause : goal.returns-in-Stop-clause-cause
-returns-in-Stop-clause-cause g c = stopped_with g c (λ d. HasCause (g.D.Disk.state c.args.disk).faults (g.D.Disk.state d).faults ⊥) c.in-Ok.ensures.cause
+pub returns-in-Err-join_all-clause-cause : goal.returns-in-Err-join_all-clause-cause
+returns-in-Err-join_all-clause-cause g c = stopped_with g c (λ d. HasCause (g.D.Disk.state c.args.disk).faults (g.D.Disk.state d).faults ⊥) c.in-Ok.ensures.cause

@@ -1,0 +1,21 @@
+use Rattle.std.proofs.Common.{ℕ, take, ap, ◌∙◌}
+use Rattle.standby_link.specs.declared.ear.Ear.{Ear}
+use Rattle.standby_link.specs.declared.line.Line.{Line}
+use Rattle.standby_link.specs.Lines.{line_at}
+use Rattle.standby_link.proofs.MoveSteps.{join_step}
+use Rattle.standby_link.proofs.joins.join_file.Goals as goal
+
+pub returns-clause-line : goal.returns-clause-line
+returns-clause-line g c =
+    let link = g.K.Link.state in
+    let line = c.send_file.new.line in
+    record {
+      mid = line_at link line;
+      none = ap (λ (e : Ear). take e.held e.inbox) c.send_file.ensures.ear ∙ ap (λ (n : ℕ). take n c.args.line.now.ear.inbox) c.requires.none_held;
+      sends = λ t small. c.send_file.ensures.sends t small;
+      syncs = λ here few. c.sync.ensures.syncs here few;
+      gone = λ some. (ap (λ (l : Line g.row.K.Denot). l.lost) (c.sync.ensures.gone some), ap (λ (l : Line g.row.K.Denot). link l.link) (c.sync.ensures.gone some));
+    }
+
+pub returns-clause-step : goal.returns-clause-step
+returns-clause-step g c = λ t small few. join_step _ _ _ _ _ _ t (c.send_file.ensures.looks t).same small few (returns-clause-line g c)

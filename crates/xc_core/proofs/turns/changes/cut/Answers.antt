@@ -1,0 +1,55 @@
+use Rattle.std.proofs.Common.{List, [], ◌∷◌, ◌++◌, sym, ◌∙◌, ap, subst}
+use Rattle.dxc_model.specs.declared.entry.Entry.{Entry}
+use Rattle.dxc_model.specs.declared.entry.Outcome.TheVariants.{Cut}
+use Rattle.xc_core.specs.declared.state.State.{State}
+use Rattle.xc_core.specs.Seeing.{entry}
+use Rattle.xc_core.specs.States.{StandsFor, opening_of}
+use Rattle.xc_core.specs.Turns.{CutIs}
+use Rattle.xc_core.specs.Begins.{plan_of}
+use Rattle.xc_core.proofs.Homing.{cut_by, cut_since, cut_unstopped}
+use Rattle.xc_core.proofs.Turning.{astray_own, found_at, leave_stands, numbered_own, pass_back, saw_once, seen_own, turned}
+use Rattle.xc_core.proofs.turns.changes.cut.Goals as goal
+
+pub leave-requires-clause-stands : goal.leave-requires-clause-stands
+leave-requires-clause-stands g c =
+    let w = c.requires.taken in
+    let f = found_at g.D.Disk.told g.D.Disk.state (opening_of g.D.Disk.state c.args.turns.now.first) c.args.pass.now.number c.enter-turn.result.own c.args.turns.now.passes w.0 c.args.pass.now.seen c.enter-turn.result.seen c.enter-turn.result.state c.enter-turn.ensures.turn.1 c.enter-turn.ensures.found w.1.codes_are in
+    let st = subst (λ (s : State g.row.D.Denot). StandsFor g.D.Disk.told g.D.Disk.state (opening_of g.D.Disk.state c.args.turns.now.first) s (w.0 ++ f.later)) (sym c.state_mut.ensures.value) f.stands in
+    let r = c.args.driver.value.rolling in
+    let t = cut_since g.D.Disk.told g.D.Disk.state (opening_of g.D.Disk.state c.args.turns.now.first) c.args.pass.now.number c.args.op.now w.0 f.later c.args.driver.value.p r f.others f.stands.turns w.2 in
+    let at = cut_by g.D.Disk.told g.D.Disk.state (opening_of g.D.Disk.state c.args.turns.now.first) c.args.pass.now.number c.args.op.now (w.0 ++ f.later) c.args.driver.value.p r (StandsFor g.D.Disk.told g.D.Disk.state (opening_of g.D.Disk.state c.args.turns.now.first) c.cut.new.state ((w.0 ++ f.later) ++ entry c.args.pass.now.number c.args.op.now Cut ∷ [])) t
+    (λ bytes x. c.cut.ensures.unnoted (opening_of g.D.Disk.state c.args.turns.now.first) c.args.pass.now.number (w.0 ++ f.later) (plan_of c.args.op.now r bytes) st x) (λ x. c.cut.ensures.cut (opening_of g.D.Disk.state c.args.turns.now.first) c.args.pass.now.number (w.0 ++ f.later) c.args.op.now r st x) in
+    leave_stands g.D.Disk.told g.D.Disk.state (opening_of g.D.Disk.state c.args.turns.now.first) c.args.pass.now.number w.0 c.enter-turn.result.state c.enter-turn.result.seen f c.cut.new.state c.number-place.result c.args.op.now Cut (c.number-place.ensures ∙ c.enter-turn.ensures.out.0)
+    (c.cut.ensures.origin ∙ ap (λ (s : State g.row.D.Denot). s.origin) c.state_mut.ensures.value) at
+
+pub returns-clause-cut : goal.returns-clause-cut
+returns-clause-cut g c = λ h saw.
+    let w = c.requires.taken in
+    let f = found_at g.D.Disk.told g.D.Disk.state (opening_of g.D.Disk.state c.args.turns.now.first) c.args.pass.now.number c.enter-turn.result.own c.args.turns.now.passes w.0 c.args.pass.now.seen c.enter-turn.result.seen c.enter-turn.result.state c.enter-turn.ensures.turn.1 c.enter-turn.ensures.found w.1.codes_are in
+    let st = subst (λ (s : State g.row.D.Denot). StandsFor g.D.Disk.told g.D.Disk.state (opening_of g.D.Disk.state c.args.turns.now.first) s (w.0 ++ f.later)) (sym c.state_mut.ensures.value) f.stands in
+    let r = c.args.driver.value.rolling in
+    let t = cut_since g.D.Disk.told g.D.Disk.state (opening_of g.D.Disk.state c.args.turns.now.first) c.args.pass.now.number c.args.op.now w.0 f.later c.args.driver.value.p r f.others f.stands.turns w.2 in
+    let at = cut_by g.D.Disk.told g.D.Disk.state (opening_of g.D.Disk.state c.args.turns.now.first) c.args.pass.now.number c.args.op.now (w.0 ++ f.later) c.args.driver.value.p r (StandsFor g.D.Disk.told g.D.Disk.state (opening_of g.D.Disk.state c.args.turns.now.first) c.cut.new.state ((w.0 ++ f.later) ++ entry c.args.pass.now.number c.args.op.now Cut ∷ [])) t
+    (λ bytes x. c.cut.ensures.unnoted (opening_of g.D.Disk.state c.args.turns.now.first) c.args.pass.now.number (w.0 ++ f.later) (plan_of c.args.op.now r bytes) st x) (λ x. c.cut.ensures.cut (opening_of g.D.Disk.state c.args.turns.now.first) c.args.pass.now.number (w.0 ++ f.later) c.args.op.now r st x) in
+    let e = entry c.args.pass.now.number c.args.op.now Cut in
+    subst (λ (l : List Entry). CutIs (opening_of g.D.Disk.state c.args.turns.now.first) c.args.pass.now.number l c.args.op.now c.leave.new.pass.seen) (saw_once (opening_of g.D.Disk.state c.args.turns.now.first) c.args.pass.now.seen w.0 h w.1 saw) (
+      (turned g.D.Disk.told g.D.Disk.state (opening_of g.D.Disk.state c.args.turns.now.first) c.args.pass.now.number w.0 c.enter-turn.result.state c.enter-turn.result.seen f c.cut.new.state e c.leave.new.pass.seen at
+          (seen_own g.D.Disk.told g.D.Disk.state (opening_of g.D.Disk.state c.args.turns.now.first) c.args.pass.now.number w.0 c.enter-turn.result.state c.enter-turn.result.seen f c.number-place.result c.args.op.now Cut c.leave.new.pass.seen (c.number-place.ensures ∙ c.enter-turn.ensures.out.0) c.leave.ensures.seen)),
+      cut_unstopped g.D.Disk.told g.D.Disk.state (opening_of g.D.Disk.state c.args.turns.now.first) c.args.pass.now.number c.args.op.now (w.0 ++ f.later) c.args.driver.value.p r t,
+    )
+
+pub returns-clause-pass : goal.returns-clause-pass
+returns-clause-pass g c =
+    pass_back c.args.turns.now c.args.pass.now c.leave.new.pass c.requires.pass c.leave.ensures.pass.0 c.leave.ensures.pass.1 (c.leave.ensures.pass.2 ∙ c.enter-turn.ensures.out.0)
+    (numbered_own g.D.Disk.told g.D.Disk.state (opening_of g.D.Disk.state c.args.turns.now.first) c.enter-turn.result.own c.args.turns.now.passes c.args.pass.now.seen c.enter-turn.result.seen c.enter-turn.result.state c.enter-turn.ensures.found c.args.pass.now.number c.number-place.result c.args.op.now Cut c.leave.new.pass.seen (c.number-place.ensures ∙ c.enter-turn.ensures.out.0) c.requires.pass.2 c.leave.ensures.seen)
+
+pub returns-clause-astray : goal.returns-clause-astray
+returns-clause-astray g c =
+    let w = c.requires.taken in
+    let f = found_at g.D.Disk.told g.D.Disk.state (opening_of g.D.Disk.state c.args.turns.now.first) c.args.pass.now.number c.enter-turn.result.own c.args.turns.now.passes w.0 c.args.pass.now.seen c.enter-turn.result.seen c.enter-turn.result.state c.enter-turn.ensures.turn.1 c.enter-turn.ensures.found w.1.codes_are in
+    let st = subst (λ (s : State g.row.D.Denot). StandsFor g.D.Disk.told g.D.Disk.state (opening_of g.D.Disk.state c.args.turns.now.first) s (w.0 ++ f.later)) (sym c.state_mut.ensures.value) f.stands in
+    let r = c.args.driver.value.rolling in
+    let t = cut_since g.D.Disk.told g.D.Disk.state (opening_of g.D.Disk.state c.args.turns.now.first) c.args.pass.now.number c.args.op.now w.0 f.later c.args.driver.value.p r f.others f.stands.turns w.2 in
+    let at = cut_by g.D.Disk.told g.D.Disk.state (opening_of g.D.Disk.state c.args.turns.now.first) c.args.pass.now.number c.args.op.now (w.0 ++ f.later) c.args.driver.value.p r (StandsFor g.D.Disk.told g.D.Disk.state (opening_of g.D.Disk.state c.args.turns.now.first) c.cut.new.state ((w.0 ++ f.later) ++ entry c.args.pass.now.number c.args.op.now Cut ∷ [])) t
+    (λ bytes x. c.cut.ensures.unnoted (opening_of g.D.Disk.state c.args.turns.now.first) c.args.pass.now.number (w.0 ++ f.later) (plan_of c.args.op.now r bytes) st x) (λ x. c.cut.ensures.cut (opening_of g.D.Disk.state c.args.turns.now.first) c.args.pass.now.number (w.0 ++ f.later) c.args.op.now r st x) in
+    astray_own g.D.Disk.told g.D.Disk.state (opening_of g.D.Disk.state c.args.turns.now.first) c.args.pass.now.number w.0 c.enter-turn.result.state c.enter-turn.result.seen f c.cut.new.state c.number-place.result c.args.op.now Cut c.leave.new.pass.seen (c.number-place.ensures ∙ c.enter-turn.ensures.out.0) at c.leave.ensures.seen

@@ -1,0 +1,39 @@
+use Rattle.std.proofs.Common.{List, refl, ◌∙◌, ap, subst, inr}
+use Rattle.dxc_model.specs.declared.entry.Entry.{Entry}
+use Rattle.dxc_model.specs.declared.entry.Outcome.TheVariants.{Answered}
+use Rattle.dxc_model.specs.declared.op.Op.TheVariants.{Look}
+use Rattle.dbchg_reports.specs.Recent.{Recent}
+use Rattle.xc_core.specs.declared.state.State.{State}
+use Rattle.xc_core.specs.Seeing.{entry}
+use Rattle.xc_core.specs.States.{opening_of}
+use Rattle.xc_core.specs.Turns.{MarkIs}
+use Rattle.xc_core.proofs.Turning.{astray_own, found_at, leave_stands, numbered_own, pass_back, saw_once, seen_own, turned, turned_read}
+use Rattle.xc_core.proofs.turns.looks.mark.Goals as goal
+
+pub leave-requires-clause-stands : goal.leave-requires-clause-stands
+leave-requires-clause-stands g c =
+    let w = c.requires.seen in
+    let f = found_at g.D.Disk.told g.D.Disk.state (opening_of g.D.Disk.state c.args.turns.now.first) c.args.pass.now.number c.enter-turn.result.own c.args.turns.now.passes w.0 c.args.pass.now.seen c.enter-turn.result.seen c.enter-turn.result.state c.enter-turn.ensures.turn.1 c.enter-turn.ensures.found w.1.codes_are in
+    leave_stands g.D.Disk.told g.D.Disk.state (opening_of g.D.Disk.state c.args.turns.now.first) c.args.pass.now.number w.0 c.enter-turn.result.state c.enter-turn.result.seen f c.enter-turn.result.state c.number-place.result (Look c.newest-newest.result) Answered (c.number-place.ensures ∙ c.enter-turn.ensures.out.0) refl (turned_read g.D.Disk.told g.D.Disk.state (opening_of g.D.Disk.state c.args.turns.now.first) c.args.pass.now.number w.0 c.enter-turn.result.state c.enter-turn.result.seen f w.2 (Look c.newest-newest.result) (inr (c.newest-newest.result, refl)))
+
+pub returns-clause-mark : goal.returns-clause-mark
+returns-clause-mark g c = λ h saw.
+    let w = c.requires.seen in
+    let f = found_at g.D.Disk.told g.D.Disk.state (opening_of g.D.Disk.state c.args.turns.now.first) c.args.pass.now.number c.enter-turn.result.own c.args.turns.now.passes w.0 c.args.pass.now.seen c.enter-turn.result.seen c.enter-turn.result.state c.enter-turn.ensures.turn.1 c.enter-turn.ensures.found w.1.codes_are in
+    let e = entry c.args.pass.now.number (Look c.newest-newest.result) Answered in
+    let st = turned_read g.D.Disk.told g.D.Disk.state (opening_of g.D.Disk.state c.args.turns.now.first) c.args.pass.now.number w.0 c.enter-turn.result.state c.enter-turn.result.seen f w.2 (Look c.newest-newest.result) (inr (c.newest-newest.result, refl)) in
+    subst (λ (l : List Entry). MarkIs (opening_of g.D.Disk.state c.args.turns.now.first) c.args.pass.now.number l c.leave.new.pass.seen c.newest-newest.result) (saw_once (opening_of g.D.Disk.state c.args.turns.now.first) c.args.pass.now.seen w.0 h w.1 saw) (
+      turned g.D.Disk.told g.D.Disk.state (opening_of g.D.Disk.state c.args.turns.now.first) c.args.pass.now.number w.0 c.enter-turn.result.state c.enter-turn.result.seen f c.enter-turn.result.state e c.leave.new.pass.seen st (seen_own g.D.Disk.told g.D.Disk.state (opening_of g.D.Disk.state c.args.turns.now.first) c.args.pass.now.number w.0 c.enter-turn.result.state c.enter-turn.result.seen f c.number-place.result (Look c.newest-newest.result) Answered c.leave.new.pass.seen (c.number-place.ensures ∙ c.enter-turn.ensures.out.0) c.leave.ensures.seen),
+      c.newest-newest.ensures ∙ ap (λ (s : State g.row.D.Denot). s.reports.newest) c.state.ensures ∙ ap (λ (r : Recent). r.newest) f.stands.reports,
+    )
+
+pub returns-clause-pass : goal.returns-clause-pass
+returns-clause-pass g c =
+    pass_back c.args.turns.now c.args.pass.now c.leave.new.pass c.requires.pass c.leave.ensures.pass.0 c.leave.ensures.pass.1 (c.leave.ensures.pass.2 ∙ c.enter-turn.ensures.out.0)
+    (numbered_own g.D.Disk.told g.D.Disk.state (opening_of g.D.Disk.state c.args.turns.now.first) c.enter-turn.result.own c.args.turns.now.passes c.args.pass.now.seen c.enter-turn.result.seen c.enter-turn.result.state c.enter-turn.ensures.found c.args.pass.now.number c.number-place.result (Look c.newest-newest.result) Answered c.leave.new.pass.seen (c.number-place.ensures ∙ c.enter-turn.ensures.out.0) c.requires.pass.2 c.leave.ensures.seen)
+
+pub returns-clause-astray : goal.returns-clause-astray
+returns-clause-astray g c =
+    let w = c.requires.seen in
+    let f = found_at g.D.Disk.told g.D.Disk.state (opening_of g.D.Disk.state c.args.turns.now.first) c.args.pass.now.number c.enter-turn.result.own c.args.turns.now.passes w.0 c.args.pass.now.seen c.enter-turn.result.seen c.enter-turn.result.state c.enter-turn.ensures.turn.1 c.enter-turn.ensures.found w.1.codes_are in
+    astray_own g.D.Disk.told g.D.Disk.state (opening_of g.D.Disk.state c.args.turns.now.first) c.args.pass.now.number w.0 c.enter-turn.result.state c.enter-turn.result.seen f c.enter-turn.result.state c.number-place.result (Look c.newest-newest.result) Answered c.leave.new.pass.seen (c.number-place.ensures ∙ c.enter-turn.ensures.out.0) (turned_read g.D.Disk.told g.D.Disk.state (opening_of g.D.Disk.state c.args.turns.now.first) c.args.pass.now.number w.0 c.enter-turn.result.state c.enter-turn.result.seen f w.2 (Look c.newest-newest.result) (inr (c.newest-newest.result, refl))) c.leave.ensures.seen
