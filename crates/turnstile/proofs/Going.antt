@@ -1,5 +1,5 @@
 -- How a place goes on that has passes of two turnstiles.
-use Rattle.std.proofs.Common.{◌≡◌, ◌≢◌, ℕ, ◌+◌, ◌<◌, Bool, List, [], ◌∷◌, ◌++◌, map, filter, length, ◌⊎◌, inl, inr, sym, refl, ap, ap₂, ◌∙◌, subst, arith, append_assoc, length-append}
+use Rattle.std.proofs.Common.{◌≡◌, ◌≢◌, ℕ, ◌+◌, ◌<◌, Bool, List, [], ◌∷◌, ◌++◌, map, filter, length, ◌⊎◌, inl, inr, sym, refl, ap, ap₂, ◌∙◌, subst, arith, append-nil, append_assoc, length-append}
 use Rattle.std.proofs.lemmas.List.{length-map, map-append}
 use base.Stored.{Gv}
 use Rattle.turnstile.specs.Dating.{AreAll, AreOthers, GoOn, IsOwnAbove, Stamp, newest, stamp}
@@ -17,6 +17,22 @@ went_on own heard old found new d a is high = record {
   whole = is ∙ (ap (λ (l : List Stamp). l ++ stamp d own ∷ []) a.whole ∙ append_assoc old a.more (stamp d own ∷ []));
   higher = all_append (λ s. s.number ≡ own → heard < s.date) a.more (stamp d own ∷ []) (all_weak (λ s. s.number ≢ own) (λ s. s.number ≡ own → heard < s.date) (λ s ne e. absurd (ne e)) a.more a.others) ((λ _. high), tt);
 }
+
+-- others' entries alone
+pub went_back : (own heard : ℕ) (old found new : List Stamp) → AreOthers own old found → new ≡ found → GoOn own heard old new
+went_back own heard old found new a is = record { more = a.more; whole = is ∙ a.whole; higher = all_weak (λ s. s.number ≢ own) (λ s. s.number ≡ own → heard < s.date) (λ s ne e. absurd (ne e)) a.more a.others }
+
+-- no turn, and turns after others
+pub goes_none : (p : Token) → GoesOn p p
+goes_none p = record { same = (refl, refl); dates = record { more = []; whole = sym (append-nil p.stamps); higher = tt } }
+
+pub goes_more : (p q r : Token) → GoesOn p q → GoesOn q r → GoesOn p r
+goes_more p q r first next =
+    let a = first.dates in
+    let b : GoOn p.number p.heard q.stamps r.stamps = subst (λ (x : ℕ × ℕ). GoOn x.0 x.1 q.stamps r.stamps) (λ i. (first.same.0 i, first.same.1 i)) next.dates in record {
+      same = (next.same.0 ∙ first.same.0, next.same.1 ∙ first.same.1);
+      dates = record { more = a.more ++ b.more; whole = b.whole ∙ (ap (λ (l : List Stamp). l ++ b.more) a.whole ∙ append_assoc p.stamps a.more b.more); higher = all_append (λ s. s.number ≡ p.number → p.heard < s.date) a.more b.more a.higher b.higher };
+    }
 
 -- what is above all that was heard is above the pass's own of it
 own_above : (own : ℕ) (seen more : List Stamp) → AreAll (λ s. s.number ≡ own → newest seen < s.date) more → IsOwnAbove own seen more
