@@ -18,10 +18,10 @@ module _ {E : Type 0} (codes : List E → List Gv) (place : E → ℕ) {X : Type
       }
 
   -- with an entry
-  pub left_pass : {e : Gv} → HasPassBy codes place t p → turn.own ≡ p.number → SeesOn turn.own p.stamps turn.stamps turn.seen → (m.number ≡ p.number) × (m.free ≡ false) × (m.heard ≡ p.heard)
+  pub left_pass : (e : Gv) → HasPassBy codes place t p → turn.own ≡ p.number → SeesOn turn.own p.stamps turn.stamps turn.seen → (m.number ≡ p.number) × (m.free ≡ false) × (m.heard ≡ p.heard)
       → (q.free ≡ true) × (q.id ≡ t.id) × (q.number ≡ m.number) → q.heard ≡ m.heard
       → ((d : ℕ) × (q.stamps ≡ turn.stamps ++ stamp d turn.own ∷ []) × (newest turn.stamps < d) × (m.heard < d)) → q.seen ≡ turn.seen ++ e ∷ [] → AreNumberedBy codes place t.passes q.seen → KeepsPassBy codes place t p q
-  left_pass {e} pass own found out back heard d seen numbered = keeps pass own out back heard (went_on turn.own m.heard p.stamps turn.stamps q.stamps d.0 found.front d.1 d.3)
+  left_pass e pass own found out back heard d seen numbered = keeps pass own out back heard (went_on turn.own m.heard p.stamps turn.stamps q.stamps d.0 found.front d.1 d.3)
       (as_many_on turn.stamps q.stamps turn.seen q.seen (stamp d.0 turn.own) e found.as_many d.1 seen) numbered
 
   -- with none
