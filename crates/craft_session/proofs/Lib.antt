@@ -11,6 +11,7 @@ pub mod Gating
 pub mod Gated
 pub mod Acted
 pub mod Walking
+pub mod Keeping
 pub mod Seating
 pub mod Reading
 pub mod Reporting
