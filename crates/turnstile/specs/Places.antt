@@ -13,10 +13,11 @@ module _ {E : Type 0} (codes : List E → List Gv) (place : E → ℕ) where
   abbrev pub HasPassBy : {X : Type 0} → TurnstileView X → Token → Type 0
   HasPassBy t p = (p.free ≡ true) × (p.id ≡ t.id) × (p.number < t.passes) × AreNumberedBy t.passes p.seen × (length p.stamps ≡ length p.seen)
 
-  -- after turns of it the pass is so, and it is the same pass at a later time
+  -- after turns of it the pass is so, and it is the same pass at a later time, which has seen what it had seen, and maybe more
   pub record KeepsPassBy {X : Type 0} (t : TurnstileView X) (old new : Token) : Type 0 where
     pub has : HasPassBy t new
     pub goes : GoesOn old new
+    pub sees : (more : List Gv) × (new.seen ≡ old.seen ++ more)
 
 module _ {O E : Type 0} (Saw : O → List Gv → List E → Type 0) (place : E → ℕ) where
   -- after the history stand others' entries, and then this one

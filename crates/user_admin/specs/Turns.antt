@@ -1,8 +1,8 @@
 -- What a place knows of the users' history, and what its turns come to.
 use Rattle.std.specs.Prelude.{◌≡◌, ◌≢◌, ◌<◌, ℕ, Bool, true, List, [], ◌∷◌, ◌++◌, map, Option, Some, None, Result, Ok, Err, MatchResult}
 use base.Stored.{Gv}
-use Rattle.turnstile.specs.Passing.{GoesOn, TurnstileView, Token}
-use Rattle.turnstile.specs.Places.{AfterBy, AreNumberedBy, HasPassBy, HasSeenBy, TurnedBackBy, TurnedBy, ViewOf, view_of}
+use Rattle.turnstile.specs.Passing.{TurnstileView, Token}
+use Rattle.turnstile.specs.Places.{AfterBy, AreNumberedBy, HasPassBy, HasSeenBy, KeepsPassBy, TurnedBackBy, TurnedBy, ViewOf, view_of}
 use Rattle.turnstile.specs.Turning.{Each}
 use Rattle.arrayvec.specs.ArrayVec.{ArrayVec}
 use Rattle.dxc_disk.specs.Disks.{DiskState}
@@ -63,11 +63,9 @@ AreNumbered = AreNumberedBy codes place_of
 abbrev pub HasPass : {X : Type 0} → TurnstileView X → Token → Type 0
 HasPass = HasPassBy codes place_of
 
--- so it is after turns of it, and it is the same pass at a later time, which has seen what it had seen and maybe more
-pub record KeepsPass {X : Type 0} (t : TurnstileView X) (old new : Token) : Type 0 where
-  pub has : HasPass t new
-  pub goes : GoesOn old new
-  pub sees : (more : List Gv) × (new.seen ≡ old.seen ++ more)
+-- so it is after turns of it, and it is the same pass at a later time
+abbrev pub KeepsPass : {X : Type 0} → TurnstileView X → Token → Token → Type 0
+KeepsPass = KeepsPassBy codes place_of
 
 -- the change was made, or the operation denied, or the gate stopped before anything was done
 abbrev pub TookIs : Opening → ℕ → List UserEntry → UserOp → List Gv → Result UserTook Stopped → Type 0

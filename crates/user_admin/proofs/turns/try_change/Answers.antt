@@ -1,15 +1,15 @@
 use Rattle.std.proofs.Common.{ℕ, sym, subst}
+use Rattle.turnstile.proofs.Places.{keeps_more}
 use Rattle.dxc_model.specs.declared.cause.Cause.TheVariants.{DiskFault}
 use Rattle.user_admin.specs.declared.op.UserOutcome.TheVariants.{Done, Failed}
 use Rattle.user_admin.specs.declared.shared.Planned.TheVariants.{Denied, Taken, Waits}
 use Rattle.user_admin.specs.declared.state.UserState.{UserState}
-use Rattle.user_admin.specs.Marks.{entries_of}
+use Rattle.user_admin.specs.Marks.{entries_of, place_of}
 use Rattle.user_admin.specs.Shared.{HasKept, opening_at}
 use Rattle.user_admin.specs.States.{IsGranted, entry}
-use Rattle.user_admin.specs.Turns.{Turned}
+use Rattle.user_admin.specs.Turns.{Turned, codes}
 use Rattle.user_admin.proofs.Sharing.{kept_done, kept_failed}
 use Rattle.user_admin.proofs.Turning.{takes_as, turned_taken}
-use Rattle.user_admin.proofs.Passes.{keeps_more}
 use Rattle.user_admin.proofs.turns.try_change.Goals as goal
 
 pub note-requires : goal.note-requires
@@ -41,10 +41,10 @@ returns-in-Err-note-clause-took g c = λ h saw.
     (turned_taken g.D.Disk.told g.D.Disk.state (opening_at g.D.Disk.state c.args.turns.now.first) c.args.pass.now.number h c.args.op.now c.take.new.pass.seen c.bring-in-Err-note.new.pass.seen c.in-Ok-Taken.keeper.value c.in-Ok-Taken.change (entry c.args.pass.now.number c.args.op.now (Failed DiskFault)) t (subst (λ (n : ℕ). Turned (opening_at g.D.Disk.state c.args.turns.now.first) n (entries_of t.marks) (entry n c.args.op.now (Failed DiskFault)) c.bring-in-Err-note.new.pass.seen) c.take.ensures.pass.goes.same.0 (c.bring-in-Err-note.ensures.brought t.marks t.codes_are)))
 
 pub returns-in-Ok-clause-pass : goal.returns-in-Ok-clause-pass
-returns-in-Ok-clause-pass g c = keeps_more c.args.turns.now c.args.pass.now c.take.new.pass c.bring.new.pass c.take.ensures.pass c.bring.ensures.pass
+returns-in-Ok-clause-pass g c = keeps_more codes place_of c.args.turns.now c.args.pass.now c.take.new.pass c.bring.new.pass c.take.ensures.pass c.bring.ensures.pass
 
 pub returns-in-Err-note-clause-pass : goal.returns-in-Err-note-clause-pass
-returns-in-Err-note-clause-pass g c = keeps_more c.args.turns.now c.args.pass.now c.take.new.pass c.bring-in-Err-note.new.pass c.take.ensures.pass c.bring-in-Err-note.ensures.pass
+returns-in-Err-note-clause-pass g c = keeps_more codes place_of c.args.turns.now c.args.pass.now c.take.new.pass c.bring-in-Err-note.new.pass c.take.ensures.pass c.bring-in-Err-note.ensures.pass
 
 pub returns-in-Ok-clause-rests : goal.returns-in-Ok-clause-rests
 returns-in-Ok-clause-rests g c = λ rests. c.bring.ensures.rests
