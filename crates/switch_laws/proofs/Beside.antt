@@ -39,7 +39,7 @@ use Rattle.craft_session.specs.Runs.{Walk, with_entries, with_look, with_quiet}
 use Rattle.craft_session.specs.Walks.{CutsAt, FrontOf, IsUnused, Serves, attending_after}
 use Rattle.switch_laws.specs.Element.{Session, answered, reported, rested, unanswered}
 use Rattle.switch_laws.specs.Laws.{session_in}
-use Rattle.switch_laws.specs.Orders.{ActsAlong, AnyMark, GoneAlong, TookAlong, acts_at_table, acts_at_users, any_entries, caller_acts, is_used_mark, looks_on, nothing_came, stopped_before_users, stopped_short, table_goes_on, users_go_on}
+use Rattle.switch_laws.specs.Orders.{ActsAlong, AnyMark, GoneAlong, TookAlong, acts_at_table, acts_at_users, after, any_entries, caller_acts, is_used_mark, looks_on, nothing_came, stopped_before_users, stopped_short, table_goes_on, users_go_on}
 use Rattle.switch_laws.proofs.Along.{own_used}
 use Rattle.switch_laws.proofs.Marked.{any_append, heard_used, none_of_table, none_of_users, table_used, used_append, users_used}
 
@@ -197,91 +197,108 @@ module _ {U M : Type 0} (l : Language U M) (p : ℕ) (t : Board) (o : UsersOpeni
   abbrev Gone : List Entry → Doing → List (Session U M) → Type 0
   Gone h x ss = GoneAlong l p t o past h x ss
 
-  -- after what was heard of the users, by what the place used
-  heard_took : (h : List Entry) (x : Doing) (w : Wanted) (y : Heard) (a : HearsOn o p x w y) → TookAlong p past h x → TookAlong p past h (heard_on x a)
-  heard_took h x w y a turns = users_took p past h x a.marks a.stamps (of_users a.entries) (x.used ++ of_users a.entries) a.dated (heard_used o p (entries_of x.marks ++ a.passed) w y a.passed a.entries a.marks a.others a.hears a.are) refl turns
-
   users_are : (x : Doing) (ms : List UserMark) (passed es : List UserEntry) → entries_of ms ≡ passed ++ es → (entries_of x.marks ++ passed) ++ es ≡ entries_of (x.marks ++ ms)
   users_are x ms passed es are = append_assoc (entries_of x.marks) passed es ∙ (ap (λ (z : List UserEntry). entries_of x.marks ++ z) (sym are) ∙ sym (entries_append x.marks ms))
 
-  module _ (apart : Parts l) (h : List Entry) (first : Doing) (ss : List (Session U M)) (begun : Gone h first ss) where
-    pub gone_on : (w : Walk U M) (x : Doing) → Does l p t o h first w x → Gone w.history x (session_in w ∷ ss)
-    gone_on _ _ begins_doing = record { acts = caller_acts h (entries_of first.marks) first.used ss begun.acts; turns = begun.turns }
-    gone_on _ _ (users_pass w x ms ts others dated d) =
-        let y = gone_on w x d in record {
-          acts = subst (λ (k : List UserEntry). Along w.history k x.used (session_in w ∷ ss)) (sym (entries_append x.marks ms)) (users_on_all w.history (entries_of x.marks) (entries_of ms) x.used (session_in w ∷ ss) others y.acts);
-          turns = users_took p past w.history x ms ts [] x.used dated (none_of_users p (entries_of ms) others) (append-nil x.used) y.turns;
-        }
-    gone_on _ _ (table_passes w x es stamps unused dated d) =
-        let y = gone_on w x d in record {
-          acts = table_on_all w.history es (entries_of x.marks) x.used (session_in w ∷ ss) unused y.acts;
-          turns = table_took p past w.history x es stamps [] x.used dated (none_of_table p es unused) (append-nil x.used) y.turns;
-        }
-    gone_on _ _ (does_unit w x u m r none a b d) =
-        let y = gone_on w x d in
-        let d2 = session_in w ∷ ss in
-        let k = entries_of x.marks ++ a.passed in
-        let one = users_on_all w.history (entries_of x.marks) a.passed x.used d2 a.others y.acts in
-        let two = table_on_all w.history b.passed k x.used d2 b.unused one in
-        let w2 = with_entries b.passed w in
-        let now = by_parts ss apart w2 none x.used k two u m r b.entries a.entries b.serves a.hears (apart w.attending.user u) in
-        let turns = table_took p past w.history (heard_on x a) (b.passed ++ b.entries) b.stamps (used_of p b.entries) ((x.used ++ of_users a.entries) ++ used_of p b.entries) b.dated
-        (used_append p b.passed b.entries ∙ ap (λ (z : List AnyEntry). z ++ used_of p b.entries) (none_of_table p b.passed b.unused)) refl (heard_took w.history x (l.wants w.attending.user u) (l.heard u) a y.turns) in
-        record {
-          acts = subst (λ (z : List UserEntry). Along ((w.history ++ b.passed) ++ b.entries) z ((x.used ++ of_users a.entries) ++ used_of p b.entries) (replied ss apart w2 none x.used k two u m r b.entries a.entries b.serves a.hears ∷ ss)) (users_are x a.marks a.passed a.entries a.are) now;
-          turns = subst (λ (z : List Entry). TookAlong p past z (done_on x a b)) (sym (append_assoc w.history b.passed b.entries)) turns;
-        }
-    gone_on _ _ (does_nothing w x none d) =
-        let y = gone_on w x d in
-        let near : List (Session U M) = rested (session_in w) ∷ ss in
-        let far : List (Session U M) = session_in (with_quiet w) ∷ ss in
-        let near_is : near ≡ far = ap (λ (bs : List ℕ). let v : Session U M = record { happenings = w.happenings ++ quiet ∷ []; attending = w.attending; due = is_some w.attending.watch; said = record { moments = w.moments; bytes = bs }; ended = false } in let d2 : List (Session U M) = v ∷ ss in d2) (sym (append-nil (w.earlier ++ w.latest))) in
-        record { acts = subst (λ (z : List (Session U M)). Along w.history (entries_of x.marks) x.used z) near_is (nothing_came w.history (entries_of x.marks) x.used ss (session_in w) refl none y.acts); turns = y.turns }
-    gone_on _ _ (does_look w x cursor ms bytes due watch b told d) =
-        let y = gone_on w x d in
-        let e = entry p (Look cursor) Answered in
-        let h2 = w.history ++ b.passed in
-        let two = table_on_all w.history b.passed (entries_of x.marks) x.used (session_in w ∷ ss) b.unused y.acts in
-        let near : List (Session U M) = reported (length (changes_of h2)) (record { moments = ms; bytes = bytes }) (session_in w) ∷ ss in
-        let far : List (Session U M) = session_in (with_look p cursor ms bytes (with_entries b.passed w)) ∷ ss in
-        let near_is : near ≡ far = ap (λ (bs : List ℕ). let v : Session U M = record { happenings = w.happenings; attending = record { user = w.attending.user; watch = Some (length (changes_of h2)) }; due = false; said = record { moments = w.moments ++ ms; bytes = bs }; ended = false } in let d2 : List (Session U M) = v ∷ ss in d2) (append_assoc w.earlier w.latest bytes) in
-        let turns = table_took p past w.history x (b.passed ++ e ∷ []) b.stamps (inl e ∷ []) (x.used ++ inl e ∷ []) b.dated
-        (then_used p past b.passed e [] (own_used p (inl e) refl (λ is. let wrong : Answered ≡ Taken = is in cc)) (none_of_table p b.passed b.unused)) refl y.turns in
-        record {
-          acts = subst (λ (z : List (Session U M)). Along (h2 ++ e ∷ []) (entries_of x.marks) (x.used ++ inl e ∷ []) z) near_is (looks_on h2 (entries_of x.marks) x.used ss (session_in w) cursor ms bytes refl due watch told two);
-          turns = subst (λ (z : List Entry). TookAlong p past z (using (table_on x b.stamps) (inl e ∷ []))) (sym (append_assoc w.history b.passed (e ∷ []))) turns;
-        }
+  module _ (earlier : List AnyEntry) where
+    -- after what was heard of the users, by what the place used
+    heard_took : (h : List Entry) (x : Doing) (w : Wanted) (y : Heard) (a : HearsOn o p x w y) → TookAlong p past h (after earlier x) → TookAlong p past h (after earlier (heard_on x a))
+    heard_took h x w y a turns = users_took p past h (after earlier x) a.marks a.stamps (of_users a.entries) (earlier ++ (x.used ++ of_users a.entries)) a.dated
+        (heard_used o p (entries_of x.marks ++ a.passed) w y a.passed a.entries a.marks a.others a.hears a.are) (append_assoc earlier x.used (of_users a.entries)) turns
 
-    -- so it is where a stop cut the last unit at the table
-    pub cut_after : (w : Walk U M) (x : Doing) → Does l p t o h first w x → w.due ≡ false → (u : U) (a : HearsOn o p x (l.wants w.attending.user u) (l.heard u)) (b : CutsOn p w.history ((heard_on x a).users_stamps) (l.asks w.attending.user u))
-        → Gone ((w.history ++ b.front) ++ entry p b.op Cut ∷ []) (cut_on x a b) (unanswered u (session_in w) ∷ ss)
-    cut_after w x d none u a b =
-        let y = gone_on w x d in
-        let e = entry p b.op Cut in
-        let k = entries_of x.marks ++ a.passed in
-        let d2 : List (Session U M) = unanswered u (session_in w) ∷ ss in
-        let table = (w.history ++ b.front) ++ e ∷ [] in
-        let used = ((x.used ++ of_users a.entries) ++ used_of p b.front) ++ inl e ∷ [] in
-        let turns = table_took p past w.history (heard_on x a) (b.front ++ e ∷ []) b.stamps (used_of p b.front ++ inl e ∷ []) used b.dated
-        (then_used p past b.front e (used_of p b.front) (own_used p (inl e) refl (λ is. let wrong : Cut ≡ Taken = is in cc)) refl) (sym (append_assoc (x.used ++ of_users a.entries) (used_of p b.front) (inl e ∷ []))) (heard_took w.history x (l.wants w.attending.user u) (l.heard u) a y.turns) in
-        let acts : Along table (k ++ a.entries) used d2 = elim (apart w.attending.user u) [
-          | inl apart_is ↦ (
-              let got = nothing_got k a.entries (l.wants w.attending.user u) (l.heard u) apart_is a.hears in
-              let users : k ≡ k ++ a.entries = sym (ap (λ (z : List UserEntry). k ++ z) got.0 ∙ append-nil k) in
-              let more : x.used ≡ x.used ++ of_users a.entries = sym (ap (λ (z : List UserEntry). x.used ++ of_users z) got.0 ∙ append-nil x.used) in
-              let one = users_on_all w.history (entries_of x.marks) a.passed x.used (session_in w ∷ ss) a.others y.acts in
-              subst (λ (z : List UserEntry × List AnyEntry). Along table z.0 ((z.1 ++ used_of p b.front) ++ inl e ∷ []) d2) (λ i. (users i, more i))
-              (stopped_short w.history k x.used ss (session_in w) u b.front b.op refl none apart_is got.1 b.stands b.cuts one)
-              )
-          | inr free ↦ absurd (no_cut (w.history ++ b.front) (l.asks w.attending.user u) b.op free b.cuts)
-        ] in
-        record {
-          acts = subst (λ (z : List UserEntry). Along table z used d2) (users_are x a.marks a.passed a.entries a.are) acts;
-          turns = subst (λ (z : List Entry). TookAlong p past z (cut_on x a b)) (sym (append_assoc w.history b.front (e ∷ []))) turns;
-        }
+    module _ (apart : Parts l) (h : List Entry) (first : Doing) (ss : List (Session U M)) (begun : Gone h (after earlier first) ss) where
+      pub gone_on : (w : Walk U M) (x : Doing) → Does l p t o h first w x → Gone w.history (after earlier x) (session_in w ∷ ss)
+      gone_on _ _ begins_doing = record { acts = caller_acts h (entries_of first.marks) (earlier ++ first.used) ss begun.acts; turns = begun.turns }
+      gone_on _ _ (users_pass w x ms ts others dated d) =
+          let y = gone_on w x d in
+          let used = earlier ++ x.used in record {
+            acts = subst (λ (k : List UserEntry). Along w.history k used (session_in w ∷ ss)) (sym (entries_append x.marks ms)) (users_on_all w.history (entries_of x.marks) (entries_of ms) used (session_in w ∷ ss) others y.acts);
+            turns = users_took p past w.history (after earlier x) ms ts [] used dated (none_of_users p (entries_of ms) others) (append-nil used) y.turns;
+          }
+      gone_on _ _ (table_passes w x es stamps unused dated d) =
+          let y = gone_on w x d in
+          let used = earlier ++ x.used in record {
+            acts = table_on_all w.history es (entries_of x.marks) used (session_in w ∷ ss) unused y.acts;
+            turns = table_took p past w.history (after earlier x) es stamps [] used dated (none_of_table p es unused) (append-nil used) y.turns;
+          }
+      gone_on _ _ (does_unit w x u m r none a b d) =
+          let y = gone_on w x d in
+          let d2 = session_in w ∷ ss in
+          let k = entries_of x.marks ++ a.passed in
+          let used = earlier ++ x.used in
+          let heard = of_users a.entries in
+          let served = used_of p b.entries in
+          let one = users_on_all w.history (entries_of x.marks) a.passed used d2 a.others y.acts in
+          let two = table_on_all w.history b.passed k used d2 b.unused one in
+          let w2 = with_entries b.passed w in
+          let now = by_parts ss apart w2 none used k two u m r b.entries a.entries b.serves a.hears (apart w.attending.user u) in
+          let users = users_are x a.marks a.passed a.entries a.are in
+          let all : (used ++ heard) ++ served ≡ earlier ++ ((x.used ++ heard) ++ served) = ap (λ (z : List AnyEntry). z ++ served) (append_assoc earlier x.used heard) ∙ append_assoc earlier (x.used ++ heard) served in
+          let turns = table_took p past w.history (after earlier (heard_on x a)) (b.passed ++ b.entries) b.stamps served (earlier ++ ((x.used ++ heard) ++ served)) b.dated
+          (used_append p b.passed b.entries ∙ ap (λ (z : List AnyEntry). z ++ served) (none_of_table p b.passed b.unused)) (append_assoc earlier (x.used ++ heard) served) (heard_took w.history x (l.wants w.attending.user u) (l.heard u) a y.turns) in
+          record {
+            acts = subst (λ (z : List UserEntry × List AnyEntry). Along ((w.history ++ b.passed) ++ b.entries) z.0 z.1 (replied ss apart w2 none used k two u m r b.entries a.entries b.serves a.hears ∷ ss)) (λ i. (users i, all i)) now;
+            turns = subst (λ (z : List Entry). TookAlong p past z (after earlier (done_on x a b))) (sym (append_assoc w.history b.passed b.entries)) turns;
+          }
+      gone_on _ _ (does_nothing w x none d) =
+          let y = gone_on w x d in
+          let near : List (Session U M) = rested (session_in w) ∷ ss in
+          let far : List (Session U M) = session_in (with_quiet w) ∷ ss in
+          let near_is : near ≡ far = ap (λ (bs : List ℕ). let v : Session U M = record { happenings = w.happenings ++ quiet ∷ []; attending = w.attending; due = is_some w.attending.watch; said = record { moments = w.moments; bytes = bs }; ended = false } in let d2 : List (Session U M) = v ∷ ss in d2) (sym (append-nil (w.earlier ++ w.latest))) in
+          record { acts = subst (λ (z : List (Session U M)). Along w.history (entries_of x.marks) (earlier ++ x.used) z) near_is (nothing_came w.history (entries_of x.marks) (earlier ++ x.used) ss (session_in w) refl none y.acts); turns = y.turns }
+      gone_on _ _ (does_look w x cursor ms bytes due watch b told d) =
+          let y = gone_on w x d in
+          let e = entry p (Look cursor) Answered in
+          let h2 = w.history ++ b.passed in
+          let used = earlier ++ x.used in
+          let own : List AnyEntry = inl e ∷ [] in
+          let two = table_on_all w.history b.passed (entries_of x.marks) used (session_in w ∷ ss) b.unused y.acts in
+          let near : List (Session U M) = reported (length (changes_of h2)) (record { moments = ms; bytes = bytes }) (session_in w) ∷ ss in
+          let far : List (Session U M) = session_in (with_look p cursor ms bytes (with_entries b.passed w)) ∷ ss in
+          let near_is : near ≡ far = ap (λ (bs : List ℕ). let v : Session U M = record { happenings = w.happenings; attending = record { user = w.attending.user; watch = Some (length (changes_of h2)) }; due = false; said = record { moments = w.moments ++ ms; bytes = bs }; ended = false } in let d2 : List (Session U M) = v ∷ ss in d2) (append_assoc w.earlier w.latest bytes) in
+          let all : used ++ own ≡ earlier ++ (x.used ++ own) = append_assoc earlier x.used own in
+          let turns = table_took p past w.history (after earlier x) (b.passed ++ e ∷ []) b.stamps own (earlier ++ (x.used ++ own)) b.dated
+          (then_used p past b.passed e [] (own_used p (inl e) refl (λ is. let wrong : Answered ≡ Taken = is in cc)) (none_of_table p b.passed b.unused)) all y.turns in
+          record {
+            acts = subst (λ (z : List AnyEntry × List (Session U M)). Along (h2 ++ e ∷ []) (entries_of x.marks) z.0 z.1) (λ i. (all i, near_is i)) (looks_on h2 (entries_of x.marks) used ss (session_in w) cursor ms bytes refl due watch told two);
+            turns = subst (λ (z : List Entry). TookAlong p past z (after earlier (using (table_on x b.stamps) own))) (sym (append_assoc w.history b.passed (e ∷ []))) turns;
+          }
 
-    -- and where one came before the users were changed
-    pub cut_before : (w : Walk U M) (x : Doing) → Does l p t o h first w x → w.due ≡ false → (u : U) (what : UserOp) → l.wants w.attending.user u ≡ to_do what → IsChanging what → Gone w.history x (unanswered u (session_in w) ∷ ss)
-    cut_before w x d none u what wants changing =
-        let y = gone_on w x d in
-        record { acts = stopped_before_users w.history (entries_of x.marks) x.used ss (session_in w) u what refl none wants changing y.acts; turns = y.turns }
+      -- so it is where a stop cut the last unit at the table
+      pub cut_after : (w : Walk U M) (x : Doing) → Does l p t o h first w x → w.due ≡ false → (u : U) (a : HearsOn o p x (l.wants w.attending.user u) (l.heard u)) (b : CutsOn p w.history ((heard_on x a).users_stamps) (l.asks w.attending.user u))
+          → Gone ((w.history ++ b.front) ++ entry p b.op Cut ∷ []) (after earlier (cut_on x a b)) (unanswered u (session_in w) ∷ ss)
+      cut_after w x d none u a b =
+          let y = gone_on w x d in
+          let e = entry p b.op Cut in
+          let k = entries_of x.marks ++ a.passed in
+          let d2 : List (Session U M) = unanswered u (session_in w) ∷ ss in
+          let table = (w.history ++ b.front) ++ e ∷ [] in
+          let heard = of_users a.entries in
+          let front = used_of p b.front in
+          let own : List AnyEntry = inl e ∷ [] in
+          let used = earlier ++ (((x.used ++ heard) ++ front) ++ own) in
+          let turns = table_took p past w.history (after earlier (heard_on x a)) (b.front ++ e ∷ []) b.stamps (front ++ own) used b.dated
+          (then_used p past b.front e front (own_used p (inl e) refl (λ is. let wrong : Cut ≡ Taken = is in cc)) refl)
+          (append_assoc earlier (x.used ++ heard) (front ++ own) ∙ ap (λ (z : List AnyEntry). earlier ++ z) (sym (append_assoc (x.used ++ heard) front own))) (heard_took w.history x (l.wants w.attending.user u) (l.heard u) a y.turns) in
+          let acts : Along table (k ++ a.entries) used d2 = elim (apart w.attending.user u) [
+            | inl apart_is ↦ (
+                let got = nothing_got k a.entries (l.wants w.attending.user u) (l.heard u) apart_is a.hears in
+                let users : k ≡ k ++ a.entries = sym (ap (λ (z : List UserEntry). k ++ z) got.0 ∙ append-nil k) in
+                let more : x.used ≡ x.used ++ heard = sym (ap (λ (z : List UserEntry). x.used ++ of_users z) got.0 ∙ append-nil x.used) in
+                let one = users_on_all w.history (entries_of x.marks) a.passed (earlier ++ x.used) (session_in w ∷ ss) a.others y.acts in
+                let all : ((earlier ++ x.used) ++ front) ++ own ≡ earlier ++ ((x.used ++ front) ++ own) = ap (λ (z : List AnyEntry). z ++ own) (append_assoc earlier x.used front) ∙ append_assoc earlier (x.used ++ front) own in
+                let then_ : ((earlier ++ x.used) ++ front) ++ own ≡ used = all ∙ ap (λ (z : List AnyEntry). earlier ++ ((z ++ front) ++ own)) more in
+                subst (λ (z : List UserEntry × List AnyEntry). Along table z.0 z.1 d2) (λ i. (users i, then_ i)) (stopped_short w.history k (earlier ++ x.used) ss (session_in w) u b.front b.op refl none apart_is got.1 b.stands b.cuts one)
+                )
+            | inr free ↦ absurd (no_cut (w.history ++ b.front) (l.asks w.attending.user u) b.op free b.cuts)
+          ] in
+          record {
+            acts = subst (λ (z : List UserEntry). Along table z used d2) (users_are x a.marks a.passed a.entries a.are) acts;
+            turns = subst (λ (z : List Entry). TookAlong p past z (after earlier (cut_on x a b))) (sym (append_assoc w.history b.front (e ∷ []))) turns;
+          }
+
+      -- and where one came before the users were changed
+      pub cut_before : (w : Walk U M) (x : Doing) → Does l p t o h first w x → w.due ≡ false → (u : U) (what : UserOp) → l.wants w.attending.user u ≡ to_do what → IsChanging what → Gone w.history (after earlier x) (unanswered u (session_in w) ∷ ss)
+      cut_before w x d none u what wants changing =
+          let y = gone_on w x d in
+          record { acts = stopped_before_users w.history (entries_of x.marks) (earlier ++ x.used) ss (session_in w) u what refl none wants changing y.acts; turns = y.turns }

@@ -169,37 +169,42 @@ pub record TookAlong (place : ℕ) (past h : List Entry) (x : Doing) : Type 0 wh
   pub takes : TakesTurns (is_used_mark place) place x.stamps left x.users_stamps x.marks took
   pub used_are : any_entries took ≡ x.used
 
+-- where these had been used before
+abbrev pub after : List AnyEntry → Doing → Doing
+after earlier x = record x { used = earlier ++ x.used }
+
 module _ {U M : Type 0} (l : Language U M) (place : ℕ) (t : Board) (o : UsersOpening) (past : List Entry) where
   -- what the sessions of the place did along both histories, and that it took its turns so
   pub record GoneAlong (h : List Entry) (x : Doing) (ss : List (Session U M)) : Type 0 where
     pub acts : ActsAlong l place t o past h (entries_of x.marks) x.used ss
     pub turns : TookAlong place past h x
 
-  -- What a session does goes on with what its place did.
-  abbrev pub GoesOnBy : Type 0
-  GoesOnBy = (h : List Entry) (first : Doing) (ss : List (Session U M)) → GoneAlong h first ss
-      → (w : Walk U M) (x : Doing) → Does l place t o h first w x → GoneAlong w.history x (session_in w ∷ ss)
+  module _ (earlier : List AnyEntry) where
+    -- What a session does goes on with what its place did.
+    abbrev pub GoesOnBy : Type 0
+    GoesOnBy = (h : List Entry) (first : Doing) (ss : List (Session U M)) → GoneAlong h (after earlier first) ss
+        → (w : Walk U M) (x : Doing) → Does l place t o h first w x → GoneAlong w.history (after earlier x) (session_in w ∷ ss)
 
-  -- so it is where a stop cut the last unit at the table
-  abbrev pub IsCutAfter : Type 0
-  IsCutAfter = (h : List Entry) (first : Doing) (ss : List (Session U M)) → GoneAlong h first ss
-      → (w : Walk U M) (x : Doing) → Does l place t o h first w x → w.due ≡ false
-      → (u : U) (a : HearsOn o place x (l.wants w.attending.user u) (l.heard u)) (b : CutsOn place w.history ((heard_on x a).users_stamps) (l.asks w.attending.user u))
-      → GoneAlong ((w.history ++ b.front) ++ entry place b.op Cut ∷ []) (cut_on x a b) (unanswered u (session_in w) ∷ ss)
+    -- so it is where a stop cut the last unit at the table
+    abbrev pub IsCutAfter : Type 0
+    IsCutAfter = (h : List Entry) (first : Doing) (ss : List (Session U M)) → GoneAlong h (after earlier first) ss
+        → (w : Walk U M) (x : Doing) → Does l place t o h first w x → w.due ≡ false
+        → (u : U) (a : HearsOn o place x (l.wants w.attending.user u) (l.heard u)) (b : CutsOn place w.history ((heard_on x a).users_stamps) (l.asks w.attending.user u))
+        → GoneAlong ((w.history ++ b.front) ++ entry place b.op Cut ∷ []) (after earlier (cut_on x a b)) (unanswered u (session_in w) ∷ ss)
 
-  -- and where one came before the users were changed
-  abbrev pub IsCutBefore : Type 0
-  IsCutBefore = (h : List Entry) (first : Doing) (ss : List (Session U M)) → GoneAlong h first ss
-      → (w : Walk U M) (x : Doing) → Does l place t o h first w x → w.due ≡ false
-      → (u : U) (op : UserOp) → l.wants w.attending.user u ≡ to_do op → IsChanging op
-      → GoneAlong w.history x (unanswered u (session_in w) ∷ ss)
+    -- and where one came before the users were changed
+    abbrev pub IsCutBefore : Type 0
+    IsCutBefore = (h : List Entry) (first : Doing) (ss : List (Session U M)) → GoneAlong h (after earlier first) ss
+        → (w : Walk U M) (x : Doing) → Does l place t o h first w x → w.due ≡ false
+        → (u : U) (op : UserOp) → l.wants w.attending.user u ≡ to_do op → IsChanging op
+        → GoneAlong w.history (after earlier x) (unanswered u (session_in w) ∷ ss)
 
 -- so it is of the sessions of a controller
 abbrev pub DoesAreActs : Type 0
-DoesAreActs = (s : Contents) (place : ℕ) (t : Board) (o : UsersOpening) (past : List Entry) → GoesOnBy (language s) place t o past
+DoesAreActs = (s : Contents) (place : ℕ) (t : Board) (o : UsersOpening) (past : List Entry) (earlier : List AnyEntry) → GoesOnBy (language s) place t o past earlier
 
 abbrev pub CutsAreActs : Type 0
-CutsAreActs = (s : Contents) (place : ℕ) (t : Board) (o : UsersOpening) (past : List Entry) → IsCutAfter (language s) place t o past
+CutsAreActs = (s : Contents) (place : ℕ) (t : Board) (o : UsersOpening) (past : List Entry) (earlier : List AnyEntry) → IsCutAfter (language s) place t o past earlier
 
 abbrev pub CutsBeforeAreActs : Type 0
-CutsBeforeAreActs = (s : Contents) (place : ℕ) (t : Board) (o : UsersOpening) (past : List Entry) → IsCutBefore (language s) place t o past
+CutsBeforeAreActs = (s : Contents) (place : ℕ) (t : Board) (o : UsersOpening) (past : List Entry) (earlier : List AnyEntry) → IsCutBefore (language s) place t o past earlier
