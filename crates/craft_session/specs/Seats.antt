@@ -2,7 +2,7 @@
 use Rattle.std.specs.Prelude.{◌≡◌, ℕ, List, ◌++◌, length, refl}
 use Rattle.std.specs.Coded.{Coded, code_by, coded×, coded_ℕ}
 use base.Stored.{Gv}
-use Rattle.turnstile.specs.Dating.{GoOn, Stamp, stamps_code}
+use Rattle.turnstile.specs.Dating.{GoOn, Stamp, newest, stamps_code}
 use Rattle.turnstile.specs.Passing.{TurnstileView, Ident, Token, ident_code, seen_code}
 use Rattle.dxc_disk.specs.Disks.{DiskState}
 use Rattle.dxc_model.specs.declared.entry.Entry.{Entry}
@@ -47,11 +47,11 @@ IsSameSeat old new = (new.opening ≡ old.opening) × (new.place ≡ old.place) 
 abbrev pub hearing : SeatAt → ℕ → SeatAt
 hearing s d = record s { heard = d }
 
--- At a later time it had heard what it had heard, its own entries since have higher dates than that, and there is a stamp of each entry.
+-- At a later time it had heard what it had heard, its own entries since have higher dates than that, and there is a stamp of each entry where there was.
 pub record SeatGoesOn (old new : SeatAt) : Type 0 where
   pub heard : new.heard ≡ old.heard
   pub dates : GoOn old.place old.heard old.stamps new.stamps
-  pub as_many : length new.stamps ≡ length new.seen
+  pub as_many : length old.stamps ≡ length old.seen → length new.stamps ≡ length new.seen
 
 -- The pass is the turnstile's and no turn of it is out; the fabric is that of the turnstile's opening; what the pass has seen is a history in which
 -- the place hasn't got the Provisioner out; and where the disk tells its content, the journal never read otherwise than it was written.
@@ -84,12 +84,24 @@ users_hearing s d = record s { heard = d }
 pub record UserSeatGoesOn (old new : UserSeatAt) : Type 0 where
   pub heard : new.heard ≡ old.heard
   pub dates : GoOn old.place old.heard old.stamps new.stamps
-  pub as_many : length new.stamps ≡ length new.seen
+  pub as_many : length old.stamps ≡ length old.seen → length new.stamps ≡ length new.seen
   pub sees : (more : List Gv) × (new.seen ≡ old.seen ++ more)
 
 -- the pass is the turnstile's, no turn of it is out, and what it has seen is a history in which the place hasn't got the users' keeper out
 abbrev pub IsUserSeated : {U : Type 0} → (U → DiskState) → Token → TurnstileView (SharedUsers U) → Type 0
 IsUserSeated state p t = HasUsersPass t p × ((h : List UserEntry) × SawUsers (users_opening state t.first) p.seen h) × IsAtRest p
+
+-- Turns with the users that come after all that the place had seen at the state: its own entries have higher dates than that.
+-- Each entry has a stamp.
+pub record UsersInTurn (seat : SeatAt) (old new : UserSeatAt) : Type 0 where
+  pub dates : GoOn old.place (newest seat.stamps) old.stamps new.stamps
+  pub as_many : (length old.stamps ≡ length old.seen) × (length new.stamps ≡ length new.seen)
+  pub sees : (more : List Gv) × (new.seen ≡ old.seen ++ more)
+
+-- and turns with the state that come after all that it had seen at the users
+pub record TableInTurn (users : UserSeatAt) (old new : SeatAt) : Type 0 where
+  pub dates : GoOn old.place (newest users.stamps) old.stamps new.stamps
+  pub as_many : (length old.stamps ≡ length old.seen) × (length new.stamps ≡ length new.seen)
 
 -- a shelf, and the seats of one place
 pub record PlaceAt : Type 0 where

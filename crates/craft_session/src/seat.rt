@@ -68,13 +68,16 @@ impl<D: Disk + Drop> Seat<D> {
 
     /// Its next entries have higher dates than all that the place has seen at the users.
     pub fn hear<U: Disk + Drop>(&mut self, users: &UserSeat<U>)
-        ensures { self.new ≡ hearing self.old (newest users.now.stamps) }
+        ensures heard { self.new ≡ hearing self.old (newest users.now.stamps) }
+        ensures as_many { (length self.new.stamps ≡ length self.new.seen)
+            × (length users.now.stamps ≡ length users.now.seen) }
     {
         self.pass.hear(users.pass());
     }
 
     pub(crate) fn pass(&self) -> &Pass
-        ensures { result.now.stamps ≡ self.now.stamps }
+        ensures stamps { result.now.stamps ≡ self.now.stamps }
+        ensures as_many { length self.now.stamps ≡ length self.now.seen }
     {
         &self.pass
     }

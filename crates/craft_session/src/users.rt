@@ -1,5 +1,5 @@
 //! The turns of one place with the users.
-ghost use Rattle.std.specs.Prelude.{◌≡◌, List, IsErr};
+ghost use Rattle.std.specs.Prelude.{◌≡◌, List, length, IsErr};
 ghost use Rattle.std.specs.Arc.{arc_value};
 ghost use Rattle.turnstile.specs.Dating.{newest};
 ghost use Rattle.dxc_causes.specs.Stops.{RoseOnlyFor};
@@ -58,13 +58,16 @@ impl<U: Disk + Drop> UserSeat<U> {
 
     /// Its next entries have higher dates than all that the place has seen at the state.
     pub fn hear<D: Disk + Drop>(&mut self, seat: &Seat<D>)
-        ensures { self.new ≡ users_hearing self.old (newest seat.now.stamps) }
+        ensures heard { self.new ≡ users_hearing self.old (newest seat.now.stamps) }
+        ensures as_many { (length self.new.stamps ≡ length self.new.seen)
+            × (length seat.now.stamps ≡ length seat.now.seen) }
     {
         self.pass.hear(seat.pass());
     }
 
     pub(crate) fn pass(&self) -> &Pass
-        ensures { result.now.stamps ≡ self.now.stamps }
+        ensures stamps { result.now.stamps ≡ self.now.stamps }
+        ensures as_many { length self.now.stamps ≡ length self.now.seen }
     {
         &self.pass
     }
