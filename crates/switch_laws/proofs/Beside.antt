@@ -31,12 +31,12 @@ use Rattle.xc_core.specs.Seeing.{entry}
 use Rattle.craft_session.specs.declared.ask.Ask.{Ask}
 use Rattle.craft_session.specs.declared.ask.Ask.TheVariants.{Refused, LogsIn, LogsOut, Completes, Allows, Inhibits, Lists, Shows, Restarts, Changes}
 use Rattle.craft_session.specs.Asks.{Language, Reply}
-use Rattle.craft_session.specs.Doing.{AnyEntry, AreDated, CutsOn, Does, Doing, HearsOn, begins_doing, cut_on, does_look, does_nothing, does_unit, done_on, heard_on, is_used, of_users, table_on, table_passes, used_of, users_on, users_pass, using}
+use Rattle.craft_session.specs.Doing.{AnyEntry, AreDated, CutsOn, Does, Doing, HearsOn, begins_doing, cut_on, does_look, does_nothing, does_unit, done_on, heard_on, is_used, of_users, table_on, table_passes, used_of, users_pass, using}
 use Rattle.craft_session.specs.Hearing.{Heard, Hears, Wanted, done_with, found, nothing, refused_by, to_do, unasked}
 use Rattle.craft_session.specs.Happenings.{quiet}
 use Rattle.craft_session.specs.Meanings.{asks, command_ask, command_wants, heard_ask, language, log_in, named_by, session_ask, session_wants, text_ask, text_wants, users_ask, users_want, wants}
 use Rattle.craft_session.specs.Runs.{Walk, with_entries, with_look, with_quiet}
-use Rattle.craft_session.specs.Walks.{CutsAt, FrontOf, IsUnused, Serves, attending_after}
+use Rattle.craft_session.specs.Walks.{CutsAt, IsUnused, Serves, attending_after}
 use Rattle.switch_laws.specs.Element.{Session, answered, reported, rested, unanswered}
 use Rattle.switch_laws.specs.Laws.{session_in}
 use Rattle.switch_laws.specs.Orders.{ActsAlong, AnyMark, GoneAlong, TookAlong, acts_at_table, acts_at_users, after, any_entries, caller_acts, is_used_mark, looks_on, nothing_came, stopped_before_users, stopped_short, table_goes_on, users_go_on}
