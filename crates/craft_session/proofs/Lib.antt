@@ -17,6 +17,7 @@ pub mod Reading
 pub mod Reporting
 pub mod Ends
 pub mod Consulted
+pub mod Done
 pub mod Timely
 pub mod SessionSteps
 pub mod Prompt
