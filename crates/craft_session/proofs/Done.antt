@@ -1,5 +1,5 @@
 -- What a session has done along both histories, one case longer.
-use Rattle.std.proofs.Common.{◌≡◌, ◌≢◌, ℕ, suc, ◌+◌, ◌<◌, true, false, length, map, List, [], ◌∷◌, ◌++◌, Some, hd, tl, inl, refl, sym, ◌∙◌, ap, subst, arith, append_assoc, length-append}
+use Rattle.std.proofs.Common.{◌≡◌, ◌≢◌, ℕ, suc, ◌+◌, ◌<◌, true, false, length, map, List, [], ◌∷◌, ◌++◌, Some, inl, refl, sym, ◌∙◌, ap, subst, arith, append_assoc, length-append}
 use Rattle.std.proofs.lemmas.List.{append_cancel_left, length-map}
 use base.Stored.{Gv}
 use Rattle.turnstile.specs.Dating.{AreAll, GoOn, IsOwnAbove, Stamp, newest}
@@ -17,8 +17,7 @@ use Rattle.user_admin.specs.Marks.{entries_of}
 use Rattle.user_admin.specs.Turns.{Saw as SawUsers, TurnedBack, codes}
 use Rattle.user_admin.proofs.Marking.{entries_append}
 use Rattle.user_admin.proofs.Turning.{same_marks}
-use Rattle.xc_core.specs.Coding.{entry_coded}
-use Rattle.xc_core.specs.Seeing.{Saw, entry}
+use Rattle.xc_core.specs.Seeing.{Saw, entry, entry_coded}
 use Rattle.xc_core.specs.Seeing.{codes as entry_codes}
 use Rattle.xc_core.specs.States.{began}
 use Rattle.craft_session.specs.declared.attending.Attending.{Attending}
@@ -30,7 +29,7 @@ use Rattle.craft_session.specs.Hearing.{HeardBehind, Hears}
 use Rattle.craft_session.specs.Notices.{AreReported, notices}
 use Rattle.craft_session.specs.Runs.{Walk, beginning, with_entries, with_look, with_quiet, with_response}
 use Rattle.craft_session.specs.Seats.{SeatAt, TableInTurn, UserSeatAt, UsersInTurn}
-use Rattle.craft_session.specs.Sessions.{Beginning, HasDone, HasDoneCut, IsAt, IsDoneBy, Now}
+use Rattle.craft_session.specs.Sessions.{Beginning, HasDone, HasDoneCut, IsAt, IsDoneBy, Now, now_of}
 use Rattle.craft_session.specs.Walks.{IsUnused}
 
 -- turns of a place with the users that come after all that it had seen at the state, by how its session stands; and turns with the state after all
@@ -53,6 +52,14 @@ above_own : (own : ℕ) (seen more : List Stamp) → AreAll (λ s. s.number ≡ 
 above_own own seen more a = all_weak (λ s. s.number ≡ own → newest seen < s.date) (λ s. s.number ≡ own → AreAll (λ t. t.number ≡ own → t.date < s.date) seen)
     (λ s k mine. all_weak (λ t. t.date < s.date) (λ t. t.number ≡ own → t.date < s.date) (λ t l _. l) seen (above_newest seen s.date (k mine))) more a
 
+abbrev hd : {A : Type 0} → A → List A → A
+hd d [] = d
+hd d (x ∷ xs) = x
+
+abbrev tl : {A : Type 0} → List A → List A
+tl [] = []
+tl (x ∷ xs) = xs
+
 -- what codes more codes more
 split_codes : {A : Type 0} (code : A → Gv) → ((x y : A) → code x ≡ code y → x ≡ y) → (ms ns : List A) (more : List Gv) → map code ns ≡ map code ms ++ more → (rest : List A) × (ns ≡ ms ++ rest)
 split_codes code inj [] ns more e = (ns, refl)
@@ -72,18 +79,18 @@ module _ (l : Language Request Moment) (b : Beginning) where
     pub done_quiet : w.due ≡ false → HasDone l b now (with_quiet w)
     done_quiet due = record { doing = done.doing; does = does_nothing w done.doing due done.does; by_now = done.by_now }
 
-    marks_are : (g : List UserEntry) → SawUsers b.users now.users g → entries_of done.doing.marks ≡ g
+    pub marks_are : (g : List UserEntry) → SawUsers b.users now.users g → entries_of done.doing.marks ≡ g
     marks_are g saw = ap entries_of (same_marks now.users done.doing.marks saw.marks done.by_now.codes_are saw.codes_are) ∙ saw.entries_are
 
     -- turns with the users
     module _ (after : Now) (on : UsersTurned b.place now after) where
       -- what they left
-      since : (g : List UserEntry) → SawUsers b.users after.users g → (ms : List UserMark) × (after.users ≡ codes (done.doing.marks ++ ms)) × (entries_of done.doing.marks ++ entries_of ms ≡ g)
+      pub since : (g : List UserEntry) → SawUsers b.users after.users g → (ms : List UserMark) × (after.users ≡ codes (done.doing.marks ++ ms)) × (entries_of done.doing.marks ++ entries_of ms ≡ g)
       since g saw =
           let r = split_codes mark_coded.code mark_coded.inj done.doing.marks saw.marks on.sees.0 (sym saw.codes_are ∙ (on.sees.1 ∙ ap (λ (s : List Gv). s ++ on.sees.0) done.by_now.codes_are)) in
           (r.0, saw.codes_are ∙ ap codes r.1, sym (entries_append done.doing.marks r.0) ∙ (sym (ap entries_of r.1) ∙ saw.entries_are))
 
-      dated : (ms : List UserMark) → after.users ≡ codes (done.doing.marks ++ ms) → AreDated b.place done.doing.stamps ms on.dates.more
+      pub dated : (ms : List UserMark) → after.users ≡ codes (done.doing.marks ++ ms) → AreDated b.place done.doing.stamps ms on.dates.more
       dated ms is =
           let whole = ap length on.dates.whole ∙ length-append now.users_stamps on.dates.more in
           let then_ = ap length is ∙ (length-map (done.doing.marks ++ ms) mark_coded.code ∙ length-append done.doing.marks ms) in
@@ -200,6 +207,14 @@ module _ (l : Language Request Moment) (b : Beginning) where
             codes_are = same_users ∙ done.by_now.codes_are;
           };
         }
+
+-- as seats have seen it
+pub done_there : (l : Language Request Moment) (b : Beginning) (seat : SeatAt) (users : UserSeatAt) (now : Now) (w : Walk Request Moment) → seat.stamps ≡ now.stamps → users.stamps ≡ now.users_stamps → users.seen ≡ now.users → HasDone l b now w → HasDone l b (now_of seat users w.attending) w
+done_there l b seat users now w stamps users_stamps seen done = record {
+  doing = done.doing;
+  does = done.does;
+  by_now = record { stamps_are = stamps ∙ done.by_now.stamps_are; users_stamps_are = users_stamps ∙ done.by_now.users_stamps_are; codes_are = seen ∙ done.by_now.codes_are };
+}
 
 -- turns of the seats of a place
 module _ (b : Beginning) (seat seat_then : SeatAt) (users users_then : UserSeatAt) (at : IsAt b seat users) where

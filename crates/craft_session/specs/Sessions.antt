@@ -18,6 +18,7 @@ use Rattle.tl1_text.specs.declared.reader.UnitKind.TheVariants.{More}
 use Rattle.tl1_text.specs.Units.{IsRest}
 use Rattle.tl1_text.specs.Reading.{Reader, Made}
 use Rattle.user_admin.specs.declared.op.UserEntry.{UserEntry}
+use Rattle.user_admin.specs.declared.op.UserMark.{UserMark}
 use Rattle.tl1_users.specs.declared.op.UserOp.{UserOp}
 use Rattle.user_admin.specs.Histories.{Opening as UsersOpening}
 use Rattle.user_admin.specs.Occupants.{is_cancelled}
@@ -75,6 +76,10 @@ pub record Beginning : Type 0 where
 -- seats begin there
 abbrev pub IsAt : Beginning → SeatAt → UserSeatAt → Type 0
 IsAt b s u = (s.opening ≡ b.opening) × (s.place ≡ b.place) × (u.opening ≡ b.users) × (u.place ≡ b.place)
+
+-- what the place has done where a session begins of which nothing counts yet
+abbrev pub done_before : SeatAt → UserSeatAt → List UserMark → Doing
+done_before s u marks = record { stamps = s.stamps; marks = marks; users_stamps = u.stamps; used = [] }
 
 -- and have seen so much
 abbrev pub IsFrom : Beginning → SeatAt → UserSeatAt → Type 0
@@ -266,7 +271,7 @@ module _ (l : Language Request Moment) where
     pub saw : Saw old.opening old.seen before
     pub users_saw : SawUsers users.opening users.seen users_before
     pub attending : Attending
-    pub session : IsSession told clock_told k j c d (record { opening = old.opening; users = users.opening; place = old.place; before = before; users_before = users_before; first = record { stamps = old.stamps; marks = users_saw.marks; users_stamps = users.stamps; used = [] } }) (now_of new then_users attending) end
+    pub session : IsSession told clock_told k j c d (record { opening = old.opening; users = users.opening; place = old.place; before = before; users_before = users_before; first = done_before old users users_saw.marks }) (now_of new then_users attending) end
 
   -- The read of this number began where the session had served all that was read before, and written every byte for it.
   pub record ReadServed (begun : LinkState → Type 0) (told clock_told : Type 0) (k : LinkState) (c : List Moment) (b : Beginning) (number : ℕ) : Type 0 where
