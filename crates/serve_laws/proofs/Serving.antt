@@ -31,8 +31,8 @@ use Rattle.craft_session.specs.Asks.{Language, user_after}
 use Rattle.craft_session.specs.Doing.{AnyEntry, CutsOn, Doing, cut_on, heard_on}
 use Rattle.craft_session.specs.Happenings.{Request, unit}
 use Rattle.craft_session.specs.Meanings.{language}
-use Rattle.craft_session.specs.Walks.{IsUnused}
 use Rattle.craft_session.specs.Seats.{PlaceAt}
+use Rattle.craft_session.proofs.Changing.{others_unused}
 use Rattle.craft_session.specs.Sessions.{AreSeen, Beginning, Breaks, Halts, IsSession, Now, Served, now_of}
 use Rattle.switch_laws.specs.Element.{Session, unanswered}
 use Rattle.switch_laws.specs.Orders.{ActsAlong, GoneAlong, after, nobody_acts}
@@ -350,10 +350,6 @@ module _ (disk_told : Type 0) {C K G : Type 0} (clock : ClockOf C) (link : LinkO
       let here : x.users_history ≡ entries_of seen.begun = sees_once t.place.users.seen x.users_history (entries_of seen.begun) x.users_saw (seen.begun, seen.codes, refl) in
       let whole : x.users_history ++ entries_of seen.later ≡ entries_of left = ap (λ (g : List UserEntry). g ++ entries_of seen.later) here ∙ sym (entries_append seen.begun seen.later) ∙ ap entries_of seen.whole in
       subst (λ (g : List UserEntry). Listens (language s) own us g x.hearings) whole (others_asked_on (language s) own us x.users_history (entries_of seen.later) x.hearings x.listens (others_entries own seen.later seen.others))
-
-  others_unused : (own : ℕ) (es : List Entry) → Each (λ e. e.place ≢ own) es → Each (IsUnused own) es
-  others_unused own [] others = tt
-  others_unused own (e ∷ es) others = (inl others.0, others_unused own es others.1)
 
   -- and both along the whole histories
   pub both_along : (s : Contents) (o : Opening) (own : ℕ) (us : UsersOpening) (first : Standing G) (came : List K) (t : Standing G) (turns : InTurn Step first came t) (history : List Entry) (left : List UserMark) → (x : Lived s o own us first came t turns)
