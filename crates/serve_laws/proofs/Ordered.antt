@@ -18,12 +18,13 @@ use Rattle.dxc_model.specs.declared.entry.Entry.{Entry}
 use Rattle.user_admin.specs.declared.op.UserMark.{UserMark}
 use Rattle.user_admin.specs.declared.shared.SharedUsers.{SharedUsers}
 use Rattle.user_admin.specs.Coding.{mark_coded as user_coded, opening_coded as users_coded}
+use Rattle.user_admin.specs.Histories.{Opening as UsersOpening}
 use Rattle.user_admin.specs.Marks.{entries_of, place_of as user_place_of}
 use Rattle.user_admin.specs.Shared.{SharedStands as UsersStand, opening_at as users_opening}
 use Rattle.xc_core.specs.declared.state.State.{State}
 use Rattle.xc_core.specs.Coding.{opening_coded}
 use Rattle.xc_core.specs.Seeing.{entry_coded, place_of}
-use Rattle.xc_core.specs.States.{Stands, opening_of}
+use Rattle.xc_core.specs.States.{Opening, Stands, opening_of}
 use Rattle.craft_session.specs.Doing.{AnyEntry}
 use Rattle.craft_session.specs.Seats.{PlaceAt}
 use Rattle.switch_laws.specs.Orders.{AnyMark, IsOrderOf, any_entries, is_used_mark}
@@ -35,12 +36,12 @@ use Rattle.serve_laws.specs.Passes.{Seen}
 module _ (w : World) where
   -- the state's turnstile, and that of the users
   abbrev pub table_turns : SequenceOf (State w.Disk) Entry
-  table_turns = record { opening = opening_of w.disk.state; number = place_of; stands = Stands w.disk.told w.disk.state; opening_code = opening_coded; entry_code = entry_coded }
+  table_turns = record { Opening = Opening; opening = opening_of w.disk.state; number = place_of; stands = Stands w.disk.told w.disk.state; opening_code = opening_coded; entry_code = entry_coded }
 
   abbrev pub users_turns : SequenceOf (SharedUsers w.Disk) UserMark
-  users_turns = record { opening = users_opening w.disk.state; number = user_place_of; stands = UsersStand w.disk.told w.disk.state; opening_code = users_coded; entry_code = user_coded }
+  users_turns = record { Opening = UsersOpening; opening = users_opening w.disk.state; number = user_place_of; stands = UsersStand w.disk.told w.disk.state; opening_code = users_coded; entry_code = user_coded }
 
-  uses : Uses table_turns users_turns
+  abbrev uses : Uses table_turns users_turns
   uses = record { used = is_used_mark; own = λ k e other. others_table k e other; other_own = λ k m other. others_users k m other }
 
   -- a view of what these have seen
@@ -51,7 +52,7 @@ module _ (w : World) where
       (one : (x : HasOne table_turns key z) × (x.history ≡ h)) (other : (x : HasOne users_turns users_key y) × (x.history ≡ g))
       (knows : (k : ℕ) (q : PlaceAt) → slice_get lefts k ≡ Some q → Knows z k (table_seen q)) (users_know : (k : ℕ) (q : PlaceAt) → slice_get lefts k ≡ Some q → Knows y k (users_seen q))
       (took : ℕ → List AnyMark) (used : ℕ → List AnyEntry) (used_are : (k : ℕ) → k < 16 → any_entries (took k) ≡ used k) where
-    passes : (k : ℕ) (us : List AnyMark) (left : PlaceAt) → slice_get lefts k ≡ Some left → (table : List Entry) → left.seat.seen ≡ map entry_coded.code table → (marks : List UserMark) → left.users.seen ≡ map user_coded.code marks
+    pub passes : (k : ℕ) (us : List AnyMark) (left : PlaceAt) → slice_get lefts k ≡ Some left → (table : List Entry) → left.seat.seen ≡ map entry_coded.code table → (marks : List UserMark) → left.users.seen ≡ map user_coded.code marks
         → TakesTurns (is_used_mark k) k left.seat.stamps table left.users.stamps marks us → HasPasses table_turns users_turns z y (is_used_mark k) k us
     passes k us left is table codes marks marks_codes takes =
         let v = knows k left is in

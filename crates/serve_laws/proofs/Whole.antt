@@ -186,7 +186,7 @@ module _ (w : World) (synced : SyncedAreMirrored w.disk.told w.disk.state) (adop
   one_order excused ss c = record { turns = c.0; played = c.1; moments = λ z m. was_then z m excused ss c.0 c.1 }
 
   -- one order of both histories' entries
-  abbrev in_order : (order : List AnyEntry) × IsOrderOf h (entries_of g) 16 (used w s o p has.turnstiles jobs lefts sixteen has.each ran) order
+  in_order : (order : List AnyEntry) × IsOrderOf h (entries_of g) 16 (used w s o p has.turnstiles jobs lefts sixteen has.each ran) order
   in_order =
       let one = has_one _ _ _ _ _ _ _ _ _ e.of_state in
       let other = has_one _ _ _ _ _ _ _ _ _ e.of_users in
