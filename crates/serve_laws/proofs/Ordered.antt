@@ -1,18 +1,16 @@
 -- The one order of the entries of both histories, by the stamps that the passes of all places know.
-use Rattle.std.proofs.Common.{◌≡◌, ◌<◌, ◌+◌, ℕ, List, map, Option, Some, Box, refl, sym, ◌∙◌, ap, subst}
+use Rattle.std.proofs.Common.{◌≡◌, ◌<◌, ◌+◌, ℕ, List, map, Option, Some, Box, sym, ◌∙◌, subst}
 use Rattle.std.specs.List.{slice_get}
 use Rattle.std.specs.declared.alloc.Global.{Global}
 use mathlib.Core.Option.{some}
 use lib.ListN.{get_elem?}
-use base.Stored.{Gv}
 use Rattle.atomic_table.specs.Table.{State as TableState}
 use Rattle.turnstile.specs.declared.board.View.{View}
-use Rattle.turnstile.specs.declared.board.Held.{Held}
 use Rattle.turnstile.specs.declared.board.Opened.{Opened}
 use Rattle.turnstile.specs.declared.sequential.Sequential.{Ghosts as SequenceOf}
 use Rattle.turnstile.specs.Dating.{Stamp}
 use Rattle.turnstile.specs.Orders.{IsOrder, TakesTurns}
-use Rattle.turnstile.specs.Together.{HasOne, HasPasses, OneOrder, Uses}
+use Rattle.turnstile.specs.Together.{HasOne, HasPasses, Uses}
 use Rattle.turnstile.proofs.Together.{one_order}
 use Rattle.dxc_model.specs.declared.entry.Entry.{Entry}
 use Rattle.user_admin.specs.declared.op.UserMark.{UserMark}

@@ -1,5 +1,5 @@
 -- What a turnstile's state stands for at which its passes rest.
-use Rattle.std.proofs.Common.{◌≡◌, ◌≢◌, ◌<◌, ◌+◌, ℕ, zero, suc, arith, true, List, [], ◌∷◌, length, map, Option, Some, None, refl, sym, ◌∙◌, ap, subst}
+use Rattle.std.proofs.Common.{◌≡◌, ◌≢◌, ◌<◌, ◌+◌, ℕ, zero, suc, arith, true, List, [], ◌∷◌, length, Option, Some, None, refl, sym, ◌∙◌, ap, subst}
 use Rattle.std.specs.List.{slice_get}
 use mathlib.Core.Option.{some, some-injective}
 use lib.ListN.{get_elem?}
@@ -14,7 +14,7 @@ use Rattle.turnstile.specs.declared.board.Opened.{Opened}
 use Rattle.turnstile.specs.Laws.{HasSeen, IsOne}
 use Rattle.turnstile.specs.Passing.{Ident, Token}
 use Rattle.turnstile.specs.Shown.{newest_of, token}
-use Rattle.turnstile.specs.Turning.{Each, Kept, Sits}
+use Rattle.turnstile.specs.Turning.{Each, Sits}
 use Rattle.turnstile.proofs.OneHistory.{one_history}
 use Rattle.craft_session.specs.Places.{IsMadeFor}
 use Rattle.serve_laws.specs.Passes.{ArePassesIn, IsPassIn, IsRestOf, Seen}

@@ -33,7 +33,7 @@ use Rattle.craft_session.specs.Happenings.{Request, unit}
 use Rattle.craft_session.specs.Meanings.{language}
 use Rattle.craft_session.specs.Seats.{PlaceAt}
 use Rattle.craft_session.proofs.Changing.{others_unused}
-use Rattle.craft_session.specs.Sessions.{AreSeen, Beginning, Breaks, Halts, IsSession, Now, Served, now_of}
+use Rattle.craft_session.specs.Sessions.{AreSeen, Beginning, Breaks, Halts, IsSession, Now, Served, done_before, now_of}
 use Rattle.switch_laws.specs.Element.{Session, unanswered}
 use Rattle.switch_laws.specs.Orders.{ActsAlong, GoneAlong, after, nobody_acts}
 use Rattle.switch_laws.proofs.Beside.{Parts, cut_after, cut_before, gone_on, parts, table_on_all, users_on_all}
@@ -232,7 +232,7 @@ module _ (disk_told : Type 0) {C K G : Type 0} (clock : ClockOf C) (link : LinkO
 
   -- where a session begins, by what its contract tells of what the seats had seen
   abbrev pub begins_at : (t u : Standing G) (c : K) → Step t u c → Beginning
-  begins_at t u c x = record { opening = t.place.seat.opening; users = t.place.users.opening; place = t.place.seat.place; before = x.session.before; users_before = x.session.users_before; first = record { stamps = t.place.seat.stamps; marks = x.session.users_saw.marks; users_stamps = t.place.users.stamps; used = [] } }
+  begins_at t u c x = record { opening = t.place.seat.opening; users = t.place.users.opening; place = t.place.seat.place; before = x.session.before; users_before = x.session.users_before; first = done_before t.place.seat t.place.users x.session.users_saw.marks }
 
   -- what the place has done is what was done before, and then nothing yet
   same_doing : (t u : Standing G) (c : K) (x : Step t u c) (y : Doing) → HasDoneIn t.place y → y ≡ after y.used (begins_at t u c x).first
