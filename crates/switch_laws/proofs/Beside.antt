@@ -117,7 +117,7 @@ module _ {U M : Type 0} (l : Language U M) (p : ℕ) (t : Board) (o : UsersOpeni
   unit_of_it d (unit u) = u
   unit_of_it d quiet = d
 
-  -- behind nothing, a unit or a time without one, that was heard, stand others' entries
+  -- after nothing, a unit or a time without one, that was heard, stand others' entries
   record NothingHeard (g seen : List UserEntry) (s : SessionUser) : Type 0 where
     pub passed : List UserEntry
     pub others : Each (λ e. e.place ≢ p) passed
