@@ -20,13 +20,13 @@ use Rattle.craft_server.specs.Askings.{site_asked}
 use Rattle.craft_server.proofs.serve.serve_on.Goals as goal
 
 pub open_places-requires-clause-begins : goal.open_places-requires-clause-begins
-open_places-requires-clause-begins g c κs within = c.requires.ready.begins
+open_places-requires-clause-begins g c = c.requires.ready.begins
 
 pub open_places-requires-clause-users_begin : goal.open_places-requires-clause-users_begin
-open_places-requires-clause-users_begin g c κs within = c.requires.ready.users_begin
+open_places-requires-clause-users_begin g c = c.requires.ready.users_begin
 
 pub open_places-requires-clause-opening : goal.open_places-requires-clause-opening
-open_places-requires-clause-opening g c κs within = c.requires.ready.opening
+open_places-requires-clause-opening g c = c.requires.ready.opening
 
 pub frame_jobs-requires-clause-seats : goal.frame_jobs-requires-clause-seats
 frame_jobs-requires-clause-seats g c κs within = c.requires.ready.seats
