@@ -17,14 +17,44 @@ use Rattle.craft_server.specs.Askings.{opened_asked, serve_asked, site_asked}
 use Rattle.craft_server.specs.Serving.{ServedSite, jobs_told, names_in, site_at, site_in}
 use Rattle.craft_server.proofs.Mirroring.{alone_by, mirrored_by}
 use Rattle.craft_server.proofs.Serves.{served_on}
-use Rattle.craft_server.proofs.Starting.{ready}
+use Rattle.craft_server.proofs.Starting.{opened_at, sized}
 use Rattle.craft_server.proofs.serve.serve_all.Goals as goal
 
-pub serve_on-requires : goal.serve_on-requires
-serve_on-requires g c κs within = let h = c.in-Ok.ensures.opened.0 in let u = c.in-Ok.ensures.opened.1 in record { ready = ready g.O.Journal.Disk.told g.O.Journal.Disk.state h.0.disk u.0.disk h.0.shelf _ c.in-Ok.element h.1 u.1 }
+pub serve_on-requires-clause-seats : goal.serve_on-requires-clause-seats
+serve_on-requires-clause-seats g c κs within = c.in-Ok.ensures.opened.0.1.seats
 
-pub serve_on-requires-in-Ok-open_mirrored : goal.serve_on-requires-in-Ok-open_mirrored
-serve_on-requires-in-Ok-open_mirrored g c κs within = let h = c.in-Ok-open_mirrored.ensures.opened.0 in let u = c.in-Ok-open_mirrored.ensures.opened.1 in record { ready = ready g.O.Journal.Disk.told (mirror_state g.O.Journal.Disk.state) h.0.mirror u.0.mirror h.0.shelf _ c.in-Ok-open_mirrored.element h.1 u.1 }
+pub serve_on-requires-clause-each : goal.serve_on-requires-clause-each
+serve_on-requires-clause-each g c κs within = c.in-Ok.ensures.opened.0.1.each
+
+pub serve_on-requires-clause-sized : goal.serve_on-requires-clause-sized
+serve_on-requires-clause-sized g c κs within = let h = c.in-Ok.ensures.opened.0 in sized g.O.Journal.Disk.told g.O.Journal.Disk.state h.0.disk h.0.shelf _ c.in-Ok.element.controller h.1
+
+pub serve_on-requires-clause-begins : goal.serve_on-requires-clause-begins
+serve_on-requires-clause-begins g c κs within = c.in-Ok.ensures.opened.0.1.begins
+
+pub serve_on-requires-clause-users_begin : goal.serve_on-requires-clause-users_begin
+serve_on-requires-clause-users_begin g c κs within = c.in-Ok.ensures.opened.1.1.begins
+
+pub serve_on-requires-clause-opening : goal.serve_on-requires-clause-opening
+serve_on-requires-clause-opening g c κs within = let h = c.in-Ok.ensures.opened.0 in opened_at g.O.Journal.Disk.told g.O.Journal.Disk.state h.0.disk h.0.shelf _ c.in-Ok.element.controller h.1
+
+pub serve_on-requires-in-Ok-open_mirrored-clause-seats : goal.serve_on-requires-in-Ok-open_mirrored-clause-seats
+serve_on-requires-in-Ok-open_mirrored-clause-seats g c κs within = c.in-Ok-open_mirrored.ensures.opened.0.1.seats
+
+pub serve_on-requires-in-Ok-open_mirrored-clause-each : goal.serve_on-requires-in-Ok-open_mirrored-clause-each
+serve_on-requires-in-Ok-open_mirrored-clause-each g c κs within = c.in-Ok-open_mirrored.ensures.opened.0.1.each
+
+pub serve_on-requires-in-Ok-open_mirrored-clause-sized : goal.serve_on-requires-in-Ok-open_mirrored-clause-sized
+serve_on-requires-in-Ok-open_mirrored-clause-sized g c κs within = let h = c.in-Ok-open_mirrored.ensures.opened.0 in sized g.O.Journal.Disk.told (mirror_state g.O.Journal.Disk.state) h.0.mirror h.0.shelf _ c.in-Ok-open_mirrored.element.controller h.1
+
+pub serve_on-requires-in-Ok-open_mirrored-clause-begins : goal.serve_on-requires-in-Ok-open_mirrored-clause-begins
+serve_on-requires-in-Ok-open_mirrored-clause-begins g c κs within = c.in-Ok-open_mirrored.ensures.opened.0.1.begins
+
+pub serve_on-requires-in-Ok-open_mirrored-clause-users_begin : goal.serve_on-requires-in-Ok-open_mirrored-clause-users_begin
+serve_on-requires-in-Ok-open_mirrored-clause-users_begin g c κs within = c.in-Ok-open_mirrored.ensures.opened.1.1.begins
+
+pub serve_on-requires-in-Ok-open_mirrored-clause-opening : goal.serve_on-requires-in-Ok-open_mirrored-clause-opening
+serve_on-requires-in-Ok-open_mirrored-clause-opening g c κs within = let h = c.in-Ok-open_mirrored.ensures.opened.0 in opened_at g.O.Journal.Disk.told (mirror_state g.O.Journal.Disk.state) h.0.mirror h.0.shelf _ c.in-Ok-open_mirrored.element.controller h.1
 
 pub returns-in-Ok-clause-alone : goal.returns-in-Ok-clause-alone
 returns-in-Ok-clause-alone g c = λ none.
