@@ -11,9 +11,7 @@ use Rattle.craft_session.specs.Places.{IsAtOpening}
 use Rattle.craft_session.specs.PlainUsers.{IsUsersOpeningOf}
 use Rattle.craft_session.specs.Scripts.{IsOpeningOf}
 use Rattle.dxc_element.specs.declared.opening.Controller.{Controller}
-use Rattle.dxc_element.specs.declared.opening.Element.{Element}
 use Rattle.dxc_element.specs.Openings.{AreUsersStarted, IsStarted}
-use Rattle.craft_server.specs.Sites.{IsReady}
 
 module _ {D : Type 0} (disk_told : Type 0) (state : D → DiskState) where
   -- a controller's state is at its opening
@@ -33,14 +31,3 @@ module _ {D : Type 0} (disk_told : Type 0) (state : D → DiskState) where
   -- and so is that of the users
   pub users_of_disk : (disk : D) (s : Contents) (x : UserState D) → AreUsersStarted disk_told state disk s x → IsUsersOpeningOf (state disk) (users_opening state x)
   users_of_disk disk s x started = let t = started.taken in record { later = t.later; room = t.kept; margin = t.paid; counts = t.counts }
-
-  -- jobs may begin on the element
-  pub ready : (disk users_disk : D) (s : Contents) (workers : ℕ) (x : Element D D) → IsStarted disk_told state disk s workers x.controller → AreUsersStarted disk_told state users_disk s x.users → IsReady disk_told state workers x
-  ready disk users_disk s workers x started users_started = record {
-    seats = started.seats;
-    each = started.each;
-    sized = sized disk s workers x.controller started;
-    begins = started.begins;
-    users_begin = users_started.begins;
-    opening = opened_at disk s workers x.controller started;
-  }

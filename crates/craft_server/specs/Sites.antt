@@ -1,15 +1,12 @@
 -- Sites that are served, by all that serves them.
-use Rattle.std.specs.Prelude.{◌≡◌, ℕ, length}
-use Rattle.std.specs.Arc.{arc_value}
+use Rattle.std.specs.Prelude.{◌≡◌}
 use Rattle.dxc_disk.specs.Disks.{DiskState}
 use Rattle.dxc_leaving.specs.Values.{AnyValue}
-use Rattle.fabric_words.specs.New.{AreNew}
-use Rattle.user_admin.specs.Openings.{Begins as UsersBegin}
+use Rattle.shelf_file.specs.Contents.{Contents}
+use Rattle.user_admin.specs.declared.state.UserState.{UserState}
 use Rattle.user_admin.specs.States.{opening_of as users_opening}
-use Rattle.xc_core.specs.Openings.{Begins}
+use Rattle.xc_core.specs.declared.state.State.{State}
 use Rattle.xc_core.specs.States.{opening_of}
-use Rattle.craft_session.specs.Places.{IsAtOpening}
-use Rattle.dxc_element.specs.declared.opening.Element.{Element}
 use Rattle.standby_link.specs.declared.mirror_disk.MirrorDisk.{MirrorDisk}
 use Rattle.dxc_args.specs.declared.status.Status.{Status}
 use Rattle.dxc_element.specs.declared.opening.Names.{Names}
@@ -28,21 +25,21 @@ names_of n = named n.shelf.now n.journal.now
 abbrev pub site_of : Site → SiteAt
 site_of s = site_at s.address.now s.lines.now s.workers
 
--- an element that was opened for so many workers, with a seat for each, as jobs begin on it
-pub record IsReady {D : Type 0} (disk_told : Type 0) (state : D → DiskState) (workers : ℕ) (x : Element D D) : Type 0 where
-  pub seats : AreNew (arc_value x.controller.fabric) 0 x.controller.seats.items
-  pub each : length x.controller.seats.items ≡ workers
-  pub sized : (arc_value x.controller.fabric).size ≡ record { shape = (arc_value x.controller.shelf).shape; workers = workers }
-  pub begins : Begins disk_told state x.controller.state
-  pub users_begin : UsersBegin disk_told state x.users
-  pub opening : IsAtOpening (opening_of state x.controller.state) (arc_value x.controller.shelf) (arc_value x.controller.fabric)
+-- what jobs begin on: a shelf, a state and users
+pub record Outset (D : Type 0) : Type 0 where
+  pub shelf : Contents
+  pub state : State D
+  pub users : UserState D
+
+abbrev pub outset : {D : Type 0} → Contents → State D → UserState D → Outset D
+outset shelf state users = record { shelf = shelf; state = state; users = users }
 
 -- what came of its jobs, by the status; or that its places were let go
-abbrev pub CameToOn : {D N L C G : Type 0} (state : D → DiskState) → JobsTold N L C G → SiteAt → Element D D → Status → Type 0
-CameToOn {D} state jobs site x status = CameTo D D jobs site status (arc_value x.controller.shelf) (opening_of state x.controller.state) (users_opening state x.users)
+abbrev pub CameToOn : {D N L C G : Type 0} (state : D → DiskState) → JobsTold N L C G → SiteAt → Outset D → Status → Type 0
+CameToOn {D} state jobs site x status = CameTo D D jobs site status x.shelf (opening_of state x.state) (users_opening state x.users)
 
-abbrev pub LeftPlacesOf : {D : Type 0} (state : D → DiskState) (gone : AnyValue → Type 0) → Element D D → Type 0
-LeftPlacesOf state gone x = LeftPlaces gone (arc_value x.controller.shelf) (opening_of state x.controller.state) (users_opening state x.users)
+abbrev pub LeftPlacesOf : {D : Type 0} (state : D → DiskState) (gone : AnyValue → Type 0) → Outset D → Type 0
+LeftPlacesOf state gone x = LeftPlaces gone x.shelf (opening_of state x.state) (users_opening state x.users)
 
 -- what is asked, at the call and at the return
 abbrev pub asked_before : (w : Grounds) → Across w.O → Across w.G → Sources w.Disk

@@ -1,7 +1,13 @@
 //! Sessions and frame workers, side by side.
-ghost use Rattle.std.specs.Prelude.{◌≡◌, ◌⊎◌, ◌+◌, ◌++◌, [], ℕ, vec_len, None, IsSome};
+ghost use Rattle.std.specs.Prelude.{◌≡◌, ◌⊎◌, ◌+◌, ◌++◌, [], ℕ, length, vec_len, None, IsSome};
+ghost use Rattle.std.specs.Arc.{arc_value};
 ghost use Rattle.dxc_outside.specs.Asked.{AskedFor};
 ghost use Rattle.dxc_outside.specs.Jobs.{any_jobs};
+ghost use Rattle.fabric_words.specs.New.{AreNew};
+ghost use Rattle.user_admin.specs.Openings.{Begins as UsersBegin};
+ghost use Rattle.xc_core.specs.Openings.{Begins};
+ghost use Rattle.xc_core.specs.States.{opening_of};
+ghost use Rattle.craft_session.specs.Places.{IsAtOpening};
 ghost use Rattle.dxc_jobs.specs.Framed.{RanFrames};
 ghost use Rattle.dxc_jobs.specs.Leaves.{left_by};
 ghost use Rattle.dxc_jobs.specs.Missing.{IsOfNoOpening};
@@ -9,7 +15,7 @@ ghost use Rattle.craft_server.specs.Askings.{serve_asked, site_asked};
 ghost use Rattle.craft_server.specs.Entrances.{ends, entrance};
 ghost use Rattle.craft_server.specs.Served.{RanAt};
 ghost use Rattle.craft_server.specs.Serving.{AreLeft, AreLeftTo, IsServingBy, jobs_by, names_in, site_in, tally};
-ghost use Rattle.craft_server.specs.Sites.{CameToOn, IsReady, LeftPlacesOf, ServedAlone, ServedMirrored, site_of};
+ghost use Rattle.craft_server.specs.Sites.{CameToOn, LeftPlacesOf, ServedAlone, ServedMirrored, outset, site_of};
 
 use crate::jobs::session_jobs;
 use crate::sessions::SessionJob;
@@ -23,8 +29,12 @@ use dxc_jobs::{FrameJob, frame_jobs, run_all};
 use dxc_leaving::LetGo;
 use dxc_notes::{Noted, PLACES};
 use dxc_outside::{Gate, Lines, Listener, Opener, Spawner, Started};
+use fabric_words::{Fabric, WorkerSeat};
+use shelf_file::Shelf;
 use std::alloc::Global;
-use std::sync::Wait;
+use std::sync::{Arc, Wait};
+use user_admin::UserState;
+use xc_core::State;
 
 /// Runs the workers' jobs and the sessions' jobs to their ends. What they leave is let go.
 fn run_jobs<
@@ -84,13 +94,17 @@ struct Site<'a> {
     workers: u16,
 }
 
-/// Opens the lines of each worker and a listener for each of 16 places at the element, and runs their jobs to their ends. Where one of them can't
-/// be opened the places are let go as they were made.
+/// Opens the lines of each worker and a listener for each of 16 places at the state and the users, and runs their jobs to their ends. Where one of them
+/// can't be opened the places are let go as they were made.
 fn serve_on<O: Opener + LetGo, D: Disk + Send + Drop + 'static, P: Spawner, R: Wait>(
     alloc: Global,
     opener: &mut O,
     site: Site<'_>,
-    element: Element<D, D>,
+    shelf: &Arc<Shelf>,
+    fabric: &Arc<Fabric>,
+    seats: Vec<WorkerSeat>,
+    state: State<D>,
+    users: UserState<D>,
     spawner: &mut P,
     rt: &R,
 ) -> Status
@@ -99,32 +113,35 @@ where
     O::Listener: Noted,
     <O::Listener as Listener>::Link: Send + 'static,
     <O::Listener as Noted>::Notes: Send + 'static,
-    requires ready { IsReady D.told D.state site.workers element }
+    requires seats { AreNew (arc_value fabric.now) 0 seats.items }
+    requires each { length seats.items ≡ site.workers }
+    requires sized { (arc_value fabric.now).size
+        ≡ record { shape = (arc_value shelf.now).shape; workers = site.workers } }
+    requires begins { Begins D.told D.state state }
+    requires users_begin { UsersBegin D.told D.state users }
+    requires opening { IsAtOpening (opening_of D.state state) (arc_value shelf.now)
+        (arc_value fabric.now) }
     ensures serving { IsServingBy (site.entry.workers + 16)
         (tally (O.state opener.old).faults (P.state spawner.old))
         (tally (O.state opener.new).faults (P.state spawner.new)) result }
     ensures jobs { CameToOn D.state (jobs_by D.told O.Opener O.Lines.Lines
         (entrance O.Listener.Listener O.Listener.Link.Link O.Clock.Timestamps O.Gate.Gate)
-        (ends O.gone (P.handed spawner.old spawner.new))) (site_of site.entry) element result }
-    ensures closed { result ≡ Status.CannotOpen → LeftPlacesOf D.state O.gone element }
+        (ends O.gone (P.handed spawner.old spawner.new))) (site_of site.entry)
+        (outset (arc_value shelf.now) state users) result }
+    ensures closed { result ≡ Status.CannotOpen
+        → LeftPlacesOf D.state O.gone (outset (arc_value shelf.now) state users) }
     // Memory may be wanting for the places too, before anything is asked for.
     ensures no_memory { result ≡ Status.NoMemory
-        → LeftPlacesOf D.state O.gone element ⊎ O.asked opener.old opener.new [] }
+        → LeftPlacesOf D.state O.gone (outset (arc_value shelf.now) state users)
+        ⊎ O.asked opener.old opener.new [] }
     ensures asked { AskedFor (O.asked opener.old opener.new)
         (site_asked site.entry.lines.now site.entry.address.now site.entry.workers)
         (IsOfNoOpening result) }
 {
-    let Element { controller, users } = element;
-    let Controller {
-        shelf,
-        fabric,
-        seats,
-        state,
-    } = controller;
-    let Ok(places) = open_places(alloc, &shelf, &fabric, state, users, SESSIONS) else {
+    let Ok(places) = open_places(alloc, shelf, fabric, state, users, SESSIONS) else {
         return Status::NoMemory;
     };
-    let workers = match frame_jobs(alloc, opener, site.lines, site.workers, &fabric, seats) {
+    let workers = match frame_jobs(alloc, opener, site.lines, site.workers, fabric, seats) {
         Ok(jobs) => jobs,
         Err(status) => {
             opener.let_go(places);
@@ -174,11 +191,33 @@ where
     };
     match &line.peer {
         None => match open(alloc, opener, names, site.workers, gate) {
-            Ok(element) => serve_on(alloc, opener, site, element, spawner, rt),
+            Ok(element) => {
+                let Element { controller, users } = element;
+                let Controller {
+                    shelf,
+                    fabric,
+                    seats,
+                    state,
+                } = controller;
+                serve_on(
+                    alloc, opener, site, &shelf, &fabric, seats, state, users, spawner, rt,
+                )
+            }
             Err(status) => status,
         },
         Some(peer) => match open_mirrored(alloc, opener, names, peer.text(), site.workers, gate) {
-            Ok(element) => serve_on(alloc, opener, site, element, spawner, rt),
+            Ok(element) => {
+                let Element { controller, users } = element;
+                let Controller {
+                    shelf,
+                    fabric,
+                    seats,
+                    state,
+                } = controller;
+                serve_on(
+                    alloc, opener, site, &shelf, &fabric, seats, state, users, spawner, rt,
+                )
+            }
             Err(status) => status,
         },
     }

@@ -80,7 +80,7 @@ module _ (o : Opening) (place : ℕ) (h : List Entry) (s : Attending) where
   }
 
   module _ (op : Op) (seen : List Gv) (how : Result Changed Stopped) (x : ChangedIs o place h op seen how) where
-    -- the operation stands behind what was mended
+    -- the operation stands after what was mended
     changes_by : (out : Outcome) (r : Reply) (m : MendedTo o place h (entry place op out) seen) → IsChangeAt (h ++ m.front) out → ChangeReply out r → Acts o place h s (Changes op) r s seen
     changes_by out r m fits reply =
         let all : h ++ [] ≡ h = append-nil h in

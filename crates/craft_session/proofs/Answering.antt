@@ -128,7 +128,7 @@ answered_by s told clock_told k j c d u seat users before after Sent_cut how is 
 
 module _ (s : Contents) (told clock_told : Type 0) (k j : LinkState) (c d : List Moment) (u : Input) (seat : SeatAt) (users : UserSeatAt) (before after : Now) (a : Ask) (rows : List UserRow)
     (gate : List GatePlace → Type 0) (x : IsAsked users (wants s before.attending.user u) (λ y. asks s before.attending.user y u) a rows after.users gate) where
-  -- the reply to what was asked behind what was heard
+  -- the reply to what was asked after what was heard
   pub said_of : (sent : Sent) (tag : Option (List ℕ)) (reply : Reply) (standing : Standing) → tag ≡ tag_of u → IsReplied s told clock_told k j c d sent tag (beside rows (Some standing)) reply
       → ((h : List Entry) → Saw seat.opening before.seen h → Acts seat.opening seat.place h before.attending a reply after.attending after.seen) → IsSaidOf s told clock_told k j c d sent u seat users before after
   said_of sent tag reply standing tag_is said acts = record {

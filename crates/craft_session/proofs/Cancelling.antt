@@ -35,7 +35,7 @@ use Rattle.craft_session.proofs.Gated.{are_entered_on}
 use Rattle.craft_session.proofs.SessionSteps.{served_here}
 use Rattle.craft_session.proofs.Timely.{timely_more, timely_none}
 
--- a look that was made behind what a seat had seen
+-- a look that was made after what a seat had seen
 abbrev pub HeededBy : Patience → SessionUser → UserSeatAt → List Gv → Bool → Type 0
 HeededBy patience user seat then_seen cancelled = (h : List UserEntry) → SawUsers seat.opening seat.seen h → Heeded (looking patience user seat) h then_seen cancelled
 
@@ -138,7 +138,7 @@ pub made_one : {X : Type 0} (n : ℕ) → (n ≡ 0 → ⊥) → (0 < n → X) �
 made_one zero none some = absurd (none refl)
 made_one (suc n) none some = some (omega arith)
 
--- how a session stands in its loop, behind the look, that began at these seats
+-- how a session stands in its loop, after the look, that began at these seats
 module _ (l : Language Request Moment) (t : Telling) {X : Type 0} (asked : X → X → List GatePlace → Type 0) (on : (a b c : X) (ps qs : List GatePlace) → asked a b ps → asked b c qs → asked a c (ps ++ qs)) (unasked : (x : X) → asked x x []) (k j : LinkState) (c d : List Moment) (began : SeatAt) (users_began : UserSeatAt) (a z : X) where
   -- what holds before the look, too
   pub record InLoop (seat : SeatAt) (users : UserSeatAt) (attending : Attending) (reader : Reader) : Type 0 where
@@ -188,7 +188,7 @@ module _ (l : Language Request Moment) (begun : LinkState → Type 0) (told cloc
   abbrev pub StandsOn : LinkState → List Moment → Now → Reader → Beginning → Type 0
   StandsOn j d now r b = (s : Stands l told clock_told k j c d b now false More r []) × IsUnended b.place now.attending.user s.past.consulted.history
 
-  -- a read, and writes behind it
+  -- a read, and writes after it
   pub heeds_more : (j m : LinkState) (reads : ℕ) (d : List Moment) (now : Now) (r : Reader) → Heeds l begun told clock_told k c old users j → begun j
       → ((b : Beginning) → IsAt b old users → Saw b.opening old.seen b.before → SawUsers b.users users.seen b.users_before → IsFrom b old users → StandsOn j d now r b)
       → Counted j.reads reads 1 → m.reads ≡ reads → Heeds l begun told clock_told k c old users m

@@ -1,4 +1,4 @@
--- A changing command's entries, behind those that no unit uses.
+-- A changing command's entries, after those that no unit uses.
 use Rattle.std.proofs.Common.{◌≡◌, ◌≢◌, ℕ, List, [], ◌∷◌, ◌++◌, append-nil, append_assoc, Option, Result, Ok, Err, refl, sym, ◌∙◌, ap, subst, inl, inr}
 use base.Stored.{Gv}
 use Rattle.turnstile.specs.Turning.{Each}
@@ -82,7 +82,7 @@ module _ (o : Opening) (own : ℕ) (h : List Entry) where
   abbrev pub turned_passed : (e : Entry) (seen : List Gv) → Turned o own h e seen → Passed o own h e seen
   turned_passed e seen t = record { passed = t.later; unused = others_unused own t.later t.others; saw = t.saw }
 
-  -- an entry behind what was passed
+  -- an entry after what was passed
   abbrev pub passed_on : (e : Entry) (seen then_seen : List Gv) (b : PassedBy o own h seen) → Passed o own (h ++ b.passed) e then_seen → Passed o own h e then_seen
   passed_on e seen then_seen b p = record {
     passed = b.passed ++ p.passed;
@@ -121,7 +121,7 @@ module _ (o : Opening) (own : ℕ) (h : List Entry) where
         saw = subst (λ (l : List Entry). Saw o then_seen l) (append_assoc (h ++ b.front) p.passed (e ∷ []) ∙ append_assoc h b.front (p.passed ++ e ∷ [])) p.saw;
       }
 
-  -- an entry behind them
+  -- an entry after them
   abbrev mended_on : (e : Entry) (seen then_seen : List Gv) (b : MendedBy o own h seen) → MendedTo o own (h ++ b.front) e then_seen → MendedTo o own h e then_seen
   mended_on e seen then_seen b m = record {
     front = b.front ++ m.front;
@@ -161,7 +161,7 @@ module _ (o : Opening) (own : ℕ) (h : List Entry) where
     pub mend_stopped : MendedIs o own h op seen (Err the_stop) → ChangedIs o own h op seen (Err the_stop)
     mend_stopped x = inr (passed_mended (entry own Restart Cut) seen x.0, due_now d op (h ++ x.0.passed) apt x.1)
 
-  -- by a fault of the journal, behind a plan
+  -- by a fault of the journal, after a plan
   pub changed_fault : {D : Type 0} (told : Type 0) (state : D → DiskState) (op : Op) (p : Provisioner D) (seen : List Gv) → (IsStopped h → ⊥) → FailedIs told state o own h op DiskFault p seen → ChangedIs o own h op seen (Ok (Denied DiskFault))
   changed_fault told state op p seen unstopped x = (turned_mended (entry own op (Failed DiskFault)) seen x.0, change_at (h ++ x.0.later) (Failed DiskFault) (λ stopped. unstopped (x.2 stopped)) (λ is. let y : Failed DiskFault ≡ Failed JournalAstray = is in cc))
 
@@ -218,7 +218,7 @@ module _ (o : Opening) (own : ℕ) (h : List Entry) where
         let then_failed = x.1 Restart failed in
         (turned_passed (entry own asked (Failed q)) seen x.0, failed.fault, elim then_failed.upon [ inl a ↦ inl a.0 | inr b ↦ b.1 ])
 
-  -- INIT-SYS: what came of it, behind turns that entered nothing
+  -- INIT-SYS: what came of it, after turns that entered nothing
   module _ (seen then_seen : List Gv) (b : PassedBy o own h seen) (how : Result Mended Stopped) (x : MendedIs o own (h ++ b.passed) Restart then_seen how) where
     abbrev on : MendedIs o own h Restart then_seen how
     on = mended_on_turns Restart seen then_seen b how x
@@ -235,7 +235,7 @@ module _ (o : Opening) (own : ℕ) (h : List Entry) where
     pub warm_waits : how ≡ Ok mended.Waits → PassedBy o own h then_seen
     warm_waits is = subst (λ (z : Result Mended Stopped). MendedIs o own h Restart then_seen z) is on
 
-  -- a changing command, behind restarts that were due
+  -- a changing command, after restarts that were due
   module _ (d : Dimensions) (op : Op) (apt : IsApt d op) (seen then_seen : List Gv) (b : MendedBy o own h seen) (how : Result Mended Stopped) (x : MendedIs o own (h ++ b.front) op then_seen how) where
     pub mends_ready : how ≡ Ok mended.Ready → MendedBy o own h then_seen
     mends_ready is =

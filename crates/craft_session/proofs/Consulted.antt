@@ -32,7 +32,7 @@ pub consults_past : {U M : Type 0} (l : Language U M) (place : ℕ) (o : Opening
 consults_past l place o h hs g s [] others c = subst (λ (x : List UserEntry). Consults l place o h hs x s) (sym (append-nil g)) c
 consults_past l place o h hs g s (e ∷ es) others c = subst (λ (x : List UserEntry). Consults l place o h hs x s) (append_assoc g (e ∷ []) es) (consults_past l place o h hs (g ++ e ∷ []) s es others.1 (others_pass hs g s e others.0 c))
 
--- what a unit of this user learns behind what a seat at the users had seen: of the program just what it asks, and what it wants of the users
+-- what a unit of this user learns after what a seat at the users had seen: of the program just what it asks, and what it wants of the users
 abbrev pub Learns : Language Request Moment → Beginning → (seen : List Gv) → SessionUser → Request → (then_seen : List Gv) → Type 0
 Learns l b seen s u then_seen = (l.is_told s u ≡ true) × ((h : List UserEntry) → Saw b.users seen h → HeardBehind b.users b.place h (l.wants s u) (l.heard u) then_seen)
 

@@ -36,12 +36,12 @@ fresh_from id n (x ∷ xs) f =
 pub all_fresh : (id : Ident) (passes : ℕ) (ps : List Token) → ArePasses id passes ps → AreFresh id 0 ps
 all_fresh id passes ps are = fresh_from id 0 ps (λ k p e. let same : k ≡ 0 + k = omega arith in are.1 k p e ∙ ap (fresh id) same)
 
--- the first of them, and those behind it
+-- the first of them, and those after it
 pub next_fresh : (id : Ident) (n : ℕ) (ps rest : List Token) (p d : Token) → AreFresh id n ps → 0 < length ps → p ≡ slice_index_or ps 0 d → rest ≡ take 0 ps ++ drop 1 ps → (p ≡ fresh_pass id n) × AreFresh id (n + 1) rest
 next_fresh id n [] rest p d all some is more = absurd (omega arith)
 next_fresh id n (q ∷ ps) rest p d all some is more = (is ∙ all.0, subst (λ (l : List Token). AreFresh id (n + 1) l) (sym more) all.1)
 
--- one place more behind them
+-- one place more after them
 pub places_more : (s : Contents) (o : Opening) (u : UsersOpening) (t : Turnstiles) (n : ℕ) (ps : List PlaceAt) (p : PlaceAt) → ArePlaces s o u t n ps → p ≡ place_at s o u t (n + length ps) → ArePlaces s o u t n (ps ++ p ∷ [])
 places_more s o u t n [] p all is = let same : n + 0 ≡ n = omega arith in (is ∙ ap (place_at s o u t) same, tt)
 places_more s o u t n (x ∷ xs) p all is = let same : n + suc (length xs) ≡ n + 1 + length xs = omega arith in (all.0, places_more s o u t (n + 1) xs p all.1 (is ∙ ap (place_at s o u t) same))

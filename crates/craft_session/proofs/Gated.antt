@@ -31,7 +31,7 @@ use Rattle.craft_session.specs.Gated.{AreEntered, AreUsersEntered, BothEntered, 
 use Rattle.craft_session.specs.Seats.{IsSameSeat, IsSameUserSeat, SeatAt, UserSeatAt}
 use Rattle.xc_core.proofs.Turning.{saw_once}
 
--- whether the place has the Provisioner out behind the turn
+-- whether the place has the Provisioner out after the turn
 abbrev pub takes_out : {D : Type 0} → Took D → Bool
 takes_out (took.Rolling d bytes) = true
 takes_out _ = false
@@ -186,7 +186,7 @@ module _ {X : Type 0} (asked : X → X → List GatePlace → Type 0) (on : (a b
         gated = gated_on h first between last x.entries y.entries x.places y.places x.gated y.gated;
       }
 
-  -- the work behind the journal
+  -- the work after the journal
   pub entered_noted : (a b c : X) (o : Opening) (place : ℕ) (h : List Entry) (seen : List Gv) → asked a b (Journal ∷ []) → Entered o place (after_journal (asked b c)) true false h seen → Entered o place (asked a c) true false h seen
   entered_noted a b c o place h seen first x = record {
     entries = x.entries;
@@ -196,12 +196,12 @@ module _ {X : Type 0} (asked : X → X → List GatePlace → Type 0) (on : (a b
     gated = x.gated;
   }
 
-  -- behind other turns that in which a change was to begin
+  -- after other turns that in which a change was to begin
   pub entered_take_on : (a b c : X) (o : Opening) (place n : ℕ) (h : List Entry) (mid seen : List Gv) {D : Type 0} (told : Type 0) (state : D → DiskState) (op : Op) (t : Took D) (out : Bool) → takes_out t ≡ out → n ≡ place → Entered o place (asked a b) false false h mid
       → asked b c [] → ((k : List Entry) → Saw o mid k → TookIs told state o n k op seen t) → Entered o place (asked a c) false out h seen
   entered_take_on a b c o place n h mid seen told state op t out is same x were turn = entered_on a b c o place n false false out h mid seen same x (λ k saw. entered_take o n (asked b c) k seen told state op t out is were (turn k saw))
 
-  -- turns of one seat behind those of both
+  -- turns of one seat after those of both
   pub are_entered_at : (s t : SeatAt) (u : UserSeatAt) (a b c : X) (mid seen users_mid users_seen : List Gv) → AreEntered s u (asked a b) mid users_mid → t.seen ≡ mid → IsSameSeat s t → users_seen ≡ users_mid
       → ((k : List Entry) → Saw t.opening t.seen k → Entered t.opening t.place (asked b c) false false k seen) → AreEntered s u (asked a c) seen users_seen
   are_entered_at s t u a b c mid seen users_mid users_seen first is same users_is more = λ h g saw saw_users.
@@ -218,7 +218,7 @@ module _ {X : Type 0} (asked : X → X → List GatePlace → Type 0) (on : (a b
         gated = are_gated_on h x.entries y.entries x.users_entries [] x.places y.places x.gated (at_state (h ++ x.entries) y.entries y.places y.gated);
       }
 
-  -- turns of both behind those of both
+  -- turns of both after those of both
   pub are_entered_on : (s t : SeatAt) (u v : UserSeatAt) (a b c : X) (seen users_seen : List Gv) → AreEntered s u (asked a b) t.seen v.seen → IsSameSeat s t → IsSameUserSeat u v → AreEntered t v (asked b c) seen users_seen → AreEntered s u (asked a c) seen users_seen
   are_entered_on s t u v a b c seen users_seen first same users_same more = λ h g saw saw_users.
       let x = first h g saw saw_users in

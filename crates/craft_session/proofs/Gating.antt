@@ -67,7 +67,7 @@ module _ {X : Type 0} (asked : X → X → List GatePlace → Type 0) (on : (a b
         not_none [] some = absurd (some refl)
         not_none (x ∷ xs) some = omega arith
 
-  -- a part behind what was asked before
+  -- a part after what was asked before
   stop_behind : (front : List GatePlace) (writes : ℕ) → asked a b front → AskedToStop (asked b c) writes → AskedToStop (λ places. asked a c (front ++ places)) writes
   stop_behind front writes first next = elim next [ inl x ↦ inl (x.0, x.1, on a b c front _ first x.2) | inr x ↦ inr (on a b c front (asked_for writes) first x) ]
 
@@ -78,7 +78,7 @@ module _ {X : Type 0} (asked : X → X → List GatePlace → Type 0) (on : (a b
     | inr x ↦ subst (λ (y : Result Mended Stopped). MendAsked (asked a c) y) (sym x.0) (inr (writes, stop_behind (Journal ∷ []) writes first x.1))
   ]
 
-  -- behind turns in which nothing was asked
+  -- after turns in which nothing was asked
   pub mend_on : (how : Result Mended Stopped) → asked a b [] → MendAsked (asked b c) how → MendAsked (asked a c) how
   mend_on (Ok mended.Ready) first x = (x.0, on a b c [] _ first x.1)
   mend_on (Ok (mended.Denied q)) first x = elim x [ inl none ↦ inl (on a b c [] [] first none) | inr one ↦ inr (on a b c [] _ first one) ]
@@ -116,7 +116,7 @@ module _ {X : Type 0} (asked : X → X → List GatePlace → Type 0) (on : (a b
     carried_asked (Ok (Denied q)) x = (front, mends, elim x [ inl none ↦ inl (nothing_more front first none) | inr one ↦ inr (on a b c front (Journal ∷ []) first one) ])
     carried_asked (Err e) x = (front, mends, elim x [ inl one ↦ inl (on a b c front (Journal ∷ []) first one) | inr y ↦ inr (y.0, elim y.1 [ inl z ↦ inl (z.0, z.1, on a b c front _ first z.2) | inr z ↦ inr (on a b c front _ first z) ]) ])
 
-  -- its work was driven behind the journal
+  -- its work was driven after the journal
   pub driven_asked : (writes : ℕ) (how : Result Changed Stopped) → asked a b (Journal ∷ []) → ((how ≡ Ok Done) × RollAsked (asked b c) writes (Ok tt)) ⊎ ((how ≡ Err the_stop) × RollAsked (asked b c) writes (Err the_stop)) → AskedBehind (asked a c) [] how
   driven_asked writes how first next = elim next [
     | inl x ↦ subst (λ (y : Result Changed Stopped). AskedBehind (asked a c) [] y) (sym x.0) (writes, on a b c (Journal ∷ []) (asked_for writes) first x.1)

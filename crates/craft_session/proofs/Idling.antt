@@ -19,7 +19,7 @@ use Rattle.craft_session.specs.Waiting.{ForEach, Read}
 use Rattle.craft_session.proofs.SessionSteps.{served_here}
 use Rattle.craft_session.proofs.Waiting.{StandsAt}
 
--- one Quiet more behind these
+-- one Quiet more after these
 quiet_at_last : (many : ℕ) (items : List Item) → replicate many quiet ++ quiet ∷ items ≡ replicate (suc many) quiet ++ items
 quiet_at_last zero items = refl
 quiet_at_last (suc n) items = ap (λ (is : List Item). quiet ∷ is) (quiet_at_last n items)
@@ -68,7 +68,7 @@ module _ (limited : Type 0) (limits : IdleLimits) (l : Language Request Moment) 
       })
     ]
 
-    -- a read, behind which the session went on or ended
+    -- a read, after which the session went on or ended
     pub awake_behind : (made silent : ℕ) → IsInTime limits now.attending.user silent → Idles j now.attending.user made silent → WasAwake l begun told clock_told k c old users limits m
     awake_behind made silent short i = inr (
       now.attending.user,
@@ -114,7 +114,7 @@ module _ (limited : Type 0) (limits : IdleLimits) (l : Language Request Moment) 
           nothing = λ t. s.nothing t ∙ ap (λ (items : List Item). replicate silent quiet ++ items) (left t) ∙ one_quiet_more silent m.left;
         }
 
-    -- a read that brought nothing, behind which reports were written
+    -- a read that brought nothing, after which reports were written
     pub idles_silent : (user : SessionUser) (made silent next : ℕ) → user ≡ now.attending.user → (told → j.left ≡ quiet ∷ m.left) → next ≡ silent + 1 → (limited → IsInTime limits now.attending.user silent) → Idles j now.attending.user made silent → Idles m user (made + 1) next
     idles_silent user made silent next same_user left is short i = subst (λ (n : ℕ). Idles m user (made + 1) n) (sym is) (subst (λ (u : SessionUser). Idles m u (made + 1) (silent + 1)) (sym same_user) (record {
       few = let few = i.few in omega (arith, few);

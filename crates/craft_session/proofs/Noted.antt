@@ -45,7 +45,7 @@ pub refusal_none : (q : Cause) → (q ≡ BadIdentity → ⊥) → refusal_notes
 refusal_none BadIdentity other = absurd (other refl)
 refusal_none _ other = refl
 
--- who is logged in behind a unit is noted as who gave it
+-- who is logged in after a unit is noted as who gave it
 pub notes_behind : (d : Dimensions) (user : SessionUser) (tag : Option (List ℕ)) (a : Ask) (r : Reply) → notes_of d (user_after user a) tag a r ≡ notes_of d user tag a r
 notes_behind d user tag (Refused q) r = refl
 notes_behind d user tag (LogsIn u) r = refl
@@ -147,7 +147,7 @@ noted_session noted user tag x a none = subst noted (sym (session_none user tag 
 pub noted_change : (noted : List Note → Type 0) (user : SessionUser) (tag : Option (List ℕ)) (o : UserOp) (c : Option (UserChange × List ℕ)) (x : Outcome) → c ≡ changes_user o → noted (users_command_notes user tag c x) → noted (change_notes user tag o x)
 noted_change noted user tag o c x is were = subst (λ (y : Option (UserChange × List ℕ)). noted (users_command_notes user tag y x)) is were
 
--- a response to what was asked, behind what was heard, and what was noted of it
+-- a response to what was asked, after what was heard, and what was noted of it
 module _ (s : Contents) (t : Telling) (b c : Stood) (noted : List Note → Type 0) (u : Input) (sent : Sent) (after : Now) (there : after ≡ now_in c) (seat : IsSameSeat b.seat c.seat) (users : IsSameUserSeat b.users c.users) where
   pub noted_reply : (a : Ask) (rows : List UserRow) (gate : List GatePlace → Type 0) (y : IsAsked b.users (wants s b.attending.user u) (λ h. asks s b.attending.user h u) a rows after.users gate) (tag : Option (List ℕ)) (r : Reply) (standing : Standing) → tag ≡ tag_of u → IsReplied s t.told t.clock_told b.link c.link b.coming c.coming sent tag (beside rows (Some standing)) r
       → ((h : List Entry) → Saw b.seat.opening b.seat.seen h → Acts b.seat.opening b.seat.place h b.attending a r after.attending after.seen) → (d : Dimensions) (now : SessionUser) → d ≡ s.shape → now ≡ user_after b.attending.user a → noted (users_notes b.attending.user tag (wants s b.attending.user u) a ++ notes_of d now tag a r) → HasNoted s t b c noted

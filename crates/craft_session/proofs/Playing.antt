@@ -49,7 +49,7 @@ joined_nothing x = λ i. record { moments = append-nil x.moments i; bytes = appe
 joined_assoc : {M : Type 0} (x y z : Said M) → joined (joined x y) z ≡ joined x (joined y z)
 joined_assoc x y z = λ i. record { moments = append_assoc x.moments y.moments z.moments i; bytes = append_assoc x.bytes y.bytes z.bytes i }
 
--- where the session stands behind one entry more, and behind none
+-- where the session stands after one entry more, and after none
 stood_on : (t : Board) (h : List Entry) (e : Entry) (z : Attending) → standing t (h ++ e ∷ []) z ≡ record { table = with_change (table_after t h) (made e.outcome); changes = changes_of h ++ option_to_list (made e.outcome); attending = z }
 stood_on t h e z =
     let changes : changes_of (h ++ e ∷ []) ≡ changes_of h ++ option_to_list (made e.outcome) = changes_append h (e ∷ []) ∙ ap (λ (cs : List Change). changes_of h ++ cs) (append-nil (option_to_list (made e.outcome))) in
@@ -201,7 +201,7 @@ module _ {U M : Type 0} (l : Language U M) (limit : Limit) (excused : Excuse) (m
   plays_more stays a b c [] h x y p s = (y, silence, c, attends_later a b c h y p.1 s, (refl, stays c), ap (λ (z : Said M). joined z y) p.0 ∙ sym (joined_nothing y))
   plays_more stays a b c (g ∷ hs) h x y (first, rest, next, here, more, says) s = (first, joined rest y, next, here, plays_more stays next b c hs h rest y more s, ap (λ (z : Said M). joined z y) says ∙ joined_assoc first rest y)
 
-  -- where no report is due behind it, it got all
+  -- where no report is due after it, it got all
   ends_now : (stays : (a : At) → meanwhile a a) (a b : At) (h : Happening U) (x : Said M) (w : Option ℕ) → b.attending.watch ≡ w → Answers l limit excused meanwhile a h x b → Ends l limit excused meanwhile (is_some w) a h x b
   ends_now stays a b h x None is s = record { before = a; waited = stays a; response = x; reports = silence; between = b; answers = s; reported = subst (λ (w : Option ℕ). Reports l limit excused meanwhile b w silence b) (sym is) (refl, refl); says = sym (joined_nothing x) }
   ends_now stays a b h x (Some n) is s = s

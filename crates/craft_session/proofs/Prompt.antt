@@ -18,7 +18,7 @@ module _ (l : Language Request Moment) (begun : LinkState → Type 0) (told cloc
   pub prompt_none : IsPrompt l begun told clock_told k k c old users
   prompt_none b at saw users_saw first n from below = absurd (omega (arith, from, below))
 
-  -- a read, and writes behind it
+  -- a read, and writes after it
   pub prompt_more : (j m : LinkState) (reads : ℕ) (d : List Moment) (now : Now) (r : Reader) → IsPrompt l begun told clock_told k j c old users → begun j
       → ((b : Beginning) → IsAt b old users → Saw b.opening old.seen b.before → SawUsers b.users users.seen b.users_before → IsFrom b old users → Stands l told clock_told k j c d b now false More r [])
       → Counted j.reads reads 1 → m.reads ≡ reads → IsPrompt l begun told clock_told k m c old users

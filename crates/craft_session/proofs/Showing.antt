@@ -1,4 +1,4 @@
--- The rows of those numbers from 0 that pass a test, one behind the other.
+-- The rows of those numbers from 0 that pass a test, one after the other.
 use Rattle.std.proofs.Common.{◌≡◌, ℕ, ◌+◌, ◌<◌, ◌≤◌, Bool, List, [], ◌∷◌, length, slice_index_or, map, take, sym, subst, arith}
 use Rattle.std.specs.Prelude.{filter}
 use Rattle.std.specs.List.{range_with_len}

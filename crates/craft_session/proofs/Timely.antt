@@ -141,7 +141,7 @@ module _ (l : Language Request Moment) (t : Telling) (s : Start) where
       | inr le ↦ next told n le below
     ]
 
-    -- a read, and more behind it
+    -- a read, and more after it
     pub timely_read : (m : LinkState) (got : Got) (buffer : List ℕ) → IsRead t.told j m got buffer → IsTimely l t s m f → GoesOn t.told s.beginning (reached m.written seen users) f → IsTimely l t s i f
     timely_read m got buffer read next on =
         timely_more (λ told n from below. next told n (let e = ap length (read.written told) in omega (arith, e, from)) below)
@@ -156,7 +156,7 @@ module _ {Shelf : Type 0} (value : Shelf → Contents) (t : Telling) (d : List M
       let there = subst (λ (s : Shelf). IsTimelyFrom (value s) t (stamp_at d j is_now users_now) x e) shelf timely in
       there first k c b (seat.0 ∙ at.0, seat.1 ∙ at.1, users.0 ∙ at.2, users.1 ∙ at.3) stands
 
--- messages behind one another, of which the first was begun so
+-- messages after one another, of which the first was begun so
 pub stamped_more : (stamped : Stamp → Type 0) (s : Stamp) (seat : SeatAt) (users : UserSeatAt) (j m : LinkState) (c d : List Moment) → seat ≡ s.seat → users ≡ s.users → AreStamped stamped s j c → AreStamped stamped (stamp_at c j seat users) m d → AreStamped stamped s m d
 stamped_more stamped s seat users j m c d seat_is users_is first next = elim first [
   | inl none ↦ subst (λ (w : (LinkState × List Moment) × (SeatAt × UserSeatAt)). AreStamped stamped (stamp_at w.0.1 w.0.0 w.1.0 w.1.1) m d) (λ i. ((none.0 i, none.1 i), (seat_is i, users_is i))) next

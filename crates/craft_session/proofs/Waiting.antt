@@ -92,7 +92,7 @@ module _ (limited : Type 0) (l : Language Request Moment) (begun : LinkState →
       let_go = λ limits. let_go_by now.attending.user refl waited read (short limits) some (w.let_go limits);
     })
 
-    -- a read behind which the session ended
+    -- a read after which the session ended
     pub let_go_behind : (made waited : ℕ) → (limited → now.attending.user ≡ Nobody → waited < 4800) → Waits j made waited → limited → IsLetGoBy l begun told clock_told k c old users m 4800
     let_go_behind made waited short w limits = longer m (min (waited_after now.attending.user waited 1) 4800) 4800 (omega arith) (let_go_by now.attending.user refl waited 1 (short limits) (omega arith) (w.let_go limits))
 

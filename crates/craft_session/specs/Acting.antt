@@ -17,7 +17,7 @@ use Rattle.craft_session.specs.Asks.{Reply, reply_of}
 use Rattle.craft_session.specs.Seats.{SeatAt}
 use Rattle.craft_session.specs.Walks.{CutsAt, FrontOf, IsUnused, Serves, attending_after}
 
--- behind the history stand entries that no unit uses, and then those of what was asked
+-- after the history stand entries that no unit uses, and then those of what was asked
 pub record Acts (o : Opening) (place : ℕ) (h : List Entry) (s : Attending) (a : Ask) (r : Reply) (z : Attending) (then_seen : List Gv) : Type 0 where
   pub passed : List Entry
   pub unused : Each (IsUnused place) passed
@@ -49,6 +49,6 @@ pub record Came : Type 0 where
 abbrev pub came : Result Acted Stopped → List Conn → Attending → List Gv → Came
 came acted rows attending seen = record { acted = acted; rows = rows; attending = attending; seen = seen }
 
--- behind whatever history a seat at the state had seen
+-- after whatever history a seat at the state had seen
 abbrev pub ActedFrom : SeatAt → Attending → Ask → Came → Type 0
 ActedFrom seat s a x = (h : List Entry) → Saw seat.opening seat.seen h → ActedIs seat.opening seat.place h s a x.acted x.rows x.attending x.seen

@@ -36,7 +36,7 @@ pub data AreMendings : List GatePlace → Type 0 where
   no_mending : AreMendings []
   one_mending : (before : List GatePlace) (writes : ℕ) → AreMendings before → AreMendings (before ++ (Journal ∷ asked_for writes))
 
--- a change, behind restarts that were due: before its record is appended, and for its work
+-- a change, after restarts that were due: before its record is appended, and for its work
 abbrev pub AskedBehind : (List GatePlace → Type 0) → List GatePlace → Result Changed Stopped → Type 0
 AskedBehind asked front (Ok Done) = (writes : ℕ) × asked (front ++ (Journal ∷ asked_for writes))
 AskedBehind asked front (Ok (Denied q)) = asked front ⊎ asked (front ++ (Journal ∷ []))

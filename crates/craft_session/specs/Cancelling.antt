@@ -33,7 +33,7 @@ pub record Looking : Type 0 where
 abbrev pub looking : Patience → SessionUser → UserSeatAt → Looking
 looking patience user seat = record { patience = patience; user = user; seat = seat }
 
--- Behind what a seat had seen stand others' entries alone, and this is what they tell of the sessions of who is logged in. Where no callers come it
+-- After what a seat had seen stand others' entries alone, and this is what they tell of the sessions of who is logged in. Where no callers come it
 -- isn't asked whether they go on.
 pub record Heeded (x : Looking) (h : List UserEntry) (then_seen : List Gv) (cancelled : Bool) : Type 0 where
   pub back : TurnedBack x.seat.opening x.seat.place h then_seen

@@ -18,25 +18,25 @@ use Rattle.craft_session.specs.declared.mend.Mended.{Mended}
 use Rattle.craft_session.specs.declared.mend.Mended.TheVariants as mended
 use Rattle.craft_session.specs.Walks.{IsChangeAt, IsUnused, Mends}
 
--- behind the history stand entries that no unit of the place uses, and then this one
+-- after the history stand entries that no unit of the place uses, and then this one
 pub record Passed (o : Opening) (place : ℕ) (h : List Entry) (e : Entry) (then_seen : List Gv) : Type 0 where
   pub passed : List Entry
   pub unused : Each (IsUnused place) passed
   pub saw : Saw o then_seen ((h ++ passed) ++ e ∷ [])
 
--- the same with none behind them
+-- the same with none after them
 pub record PassedBy (o : Opening) (place : ℕ) (h : List Entry) (then_seen : List Gv) : Type 0 where
   pub passed : List Entry
   pub unused : Each (IsUnused place) passed
   pub saw : Saw o then_seen (h ++ passed)
 
--- behind it stand such entries, and restarts that were due, and then this one
+-- after it stand such entries, and restarts that were due, and then this one
 pub record MendedTo (o : Opening) (place : ℕ) (h : List Entry) (e : Entry) (then_seen : List Gv) : Type 0 where
   pub front : List Entry
   pub mends : Mends place h front
   pub saw : Saw o then_seen ((h ++ front) ++ e ∷ [])
 
--- the same with none behind them
+-- the same with none after them
 pub record MendedBy (o : Opening) (place : ℕ) (h : List Entry) (then_seen : List Gv) : Type 0 where
   pub front : List Entry
   pub mends : Mends place h front

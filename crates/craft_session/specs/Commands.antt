@@ -1,4 +1,4 @@
--- What a changing command of a pass comes to, and a restart, behind what the pass has seen.
+-- What a changing command of a pass comes to, and a restart, after what the pass has seen.
 use Rattle.std.specs.Prelude.{◌≡◌, ◌⊎◌, true, false, ℕ, List, Option, Result, Ok, Err}
 use Rattle.turnstile.specs.Passing.{Token}
 use Rattle.dxc_outside.specs.declared.gate.GatePlace.{GatePlace}

@@ -60,14 +60,14 @@ heard_of o users (Denied q) = refused_by q
 heard_of o users (Failed q) = refused_by q
 heard_of o users Answered = done_with (rows_of o users)
 
--- Behind the users' history h what is wanted takes these entries of the place, and this is heard: of a log-in, whom name and PID log in of the users
+-- After the users' history h what is wanted takes these entries of the place, and this is heard: of a log-in, whom name and PID log in of the users
 -- before the place's look at them; of an operation, its outcome.
 abbrev pub Hears : Opening → ℕ → List UserEntry → Wanted → List UserEntry → Heard → Type 0
 Hears o place h nothing es x = (es ≡ []) × (x ≡ unasked)
 Hears o place h (to_look vacant uid pid) es x = (es ≡ entry place (login_op vacant uid (login uid pid (users_after o h))) Answered ∷ []) × (x ≡ found (login uid pid (users_after o h)))
 Hears o place h (to_do what) es x = (outcome : UserOutcome) × (es ≡ entry place what outcome ∷ []) × (x ≡ heard_of what (users_after o h) outcome)
 
--- behind the users' history stand others' entries, and then those of what is wanted, of which this was heard
+-- after the users' history stand others' entries, and then those of what is wanted, of which this was heard
 pub record HeardBehind (o : Opening) (place : ℕ) (h : List UserEntry) (w : Wanted) (x : Heard) (then_seen : List Gv) : Type 0 where
   pub passed : List UserEntry
   pub others : Each (λ e. e.place ≢ place) passed
@@ -87,7 +87,7 @@ pub record IsAsked (seat : UserSeatAt) (w : Wanted) (by : Heard → Ask) (a : As
   pub rows_are : rows ≡ rows_heard heard
   pub entered : AreUsersEntered seat gate then_seen
 
--- a stop came before the users were changed: others' entries alone stand behind their history
+-- a stop came before the users were changed: others' entries alone stand after their history
 pub record IsUnasked (seat : UserSeatAt) (w : Wanted) (then_seen : List Gv) : Type 0 where
   pub op : UserOp
   pub wanted : w ≡ to_do op

@@ -77,7 +77,7 @@ pub record ServesChange (place : ℕ) (h : List Entry) (op : Op) (es : List Entr
   pub fits : IsChangeAt (h ++ front) outcome
   pub reply : ChangeReply outcome r
 
--- Behind the history h what is asked takes these entries of the place and gets this reply
+-- After the history h what is asked takes these entries of the place and gets this reply
 abbrev pub Serves : ℕ → Board → List Entry → Ask → List Entry → Reply → Type 0
 Serves place t h (Refused q) es r = (es ≡ []) × (r ≡ denied q)
 Serves place t h (LogsIn u) es r = (es ≡ []) × (r ≡ completed)

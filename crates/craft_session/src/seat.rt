@@ -119,7 +119,7 @@ impl<D: Disk + Drop> Seat<D> {
         turns::rows(&mut self.pass, &self.turns, selection, into, rt);
     }
 
-    /// Gives the changes behind a number.
+    /// Gives the changes after a number.
     pub fn look<R: Wait>(&mut self, cursor: u64, into: &mut Vec<Change>, rt: &R) -> Looked
         requires room { kept ≤ vec_capacity into.old }
         ensures same { IsSameSeat self.old self.new }

@@ -41,7 +41,7 @@ pub(crate) struct Dialer<T> {
 }
 
 impl<T: Net<Listener = TcpListener, Stream = TcpStream> + SystemClock + Drop> Dialer<T> {
-    /// Of the port that the name has, or of the one behind it. An error: the name has no address, or no such port.
+    /// Of the port that the name has, or of the one after it. An error: the name has no address, or no such port.
     pub(crate) fn new(
         alloc: Global,
         system: T,

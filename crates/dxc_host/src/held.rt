@@ -54,7 +54,7 @@ impl Held {
         self.start = end;
     }
 
-    /// Puts the bytes behind those that are there; false where they have no room.
+    /// Puts the bytes after those that are there; false where they have no room.
     pub(crate) fn put(&mut self, from: &[u8]) -> bool {
         let end = self.start + self.count;
         if from.len() > self.bytes.len() - end {

@@ -8,7 +8,7 @@ use std::io::{ErrorKind, Write};
 /// So many bytes have room: some hundred answers.
 const ROOM: usize = 1 << 14;
 
-/// Bytes that are collected on their way to a writer, so that one call of the system takes many answers. What is written behind a
+/// Bytes that are collected on their way to a writer, so that one call of the system takes many answers. What is written after a
 /// change's way to a journal may be its answer: it goes out at once, so that no more than one change at a time is made and not answered.
 #[derive(Drop)]
 pub(crate) struct Outbox {
@@ -27,7 +27,7 @@ impl Outbox {
         })
     }
 
-    /// Holds bytes that may wait and have room; others go out behind what is held. How many were taken; None where a write failed.
+    /// Holds bytes that may wait and have room; others go out after what is held. How many were taken; None where a write failed.
     #[inline(always)]
     pub(crate) fn write<W: Write>(
         &mut self,

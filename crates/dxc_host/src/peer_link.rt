@@ -61,7 +61,7 @@ impl<T: Net<Listener = TcpListener, Stream = TcpStream> + SystemClock + Copy + D
         Ok(link)
     }
 
-    /// Calls the same standby at the port behind that name's, if it is there: it has both copies, or is lost.
+    /// Calls the same standby at the port after that name's, if it is there: it has both copies, or is lost.
     pub(crate) fn of_users(
         alloc: Global,
         system: T,

@@ -83,7 +83,7 @@ impl StagedFile {
         Ok(())
     }
 
-    // A file that was renamed has its name behind a crash once its folder is synced. Standard error is told.
+    // A file that was renamed has its name after a crash once its folder is synced. Standard error is told.
     fn take_name(&mut self) -> Result<(), DiskFault> {
         if os::rename(self.beside.as_bytes(), self.name.as_bytes()) != 0 {
             return Err(DiskFault);

@@ -13,7 +13,7 @@ use std::rt::Clock as SystemClock;
 /// A link over a reader and a writer, as standard input and output. It tells nothing of its content. A read that was
 /// interrupted, that timed out, or, after a rest, that found nothing is a Quiet; a write that takes 0 bytes counts as failed,
 /// and so does one that found no room for ten seconds. From the first read on what is written is collected. It goes out before each
-/// read, where it has no room, with what is written behind a change that the gate let to a journal, and by `finish`, without which
+/// read, where it has no room, with what is written after a change that the gate let to a journal, and by `finish`, without which
 /// the link can't be let go.
 pub struct TermLink<R: Read, W: Write, T: SystemClock> {
     input: R,

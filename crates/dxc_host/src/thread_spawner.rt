@@ -18,7 +18,7 @@ pub struct ThreadSpawner<T> {
 }
 
 impl<T: Threads + Wait + Copy + Send + Drop + 'static> ThreadSpawner<T> {
-    /// The threads that run are kept behind what `running` holds.
+    /// The threads that run are kept after what `running` holds.
     pub fn new(threads: T, running: Vec<JoinHandle<()>>) -> ThreadSpawner<T>
         ensures starts { result.starts ≡ 0 }
         ensures faults { result.faults ≡ 0 }

@@ -70,7 +70,7 @@ login_rests letter (b ∷ bs) = by_end (b == 59) (login_rests letter bs)
     by_end true rests = refl
     by_end false rests = ap (λ (n : ℕ). 0 + n) rests
 
--- what stands behind a byte is found at its place
+-- what stands after a byte is found at its place
 pub none_in : (byte : ℕ) (text : List ℕ) → ((k : ℕ) → 0 ≤ k → k < length text → (slice_index text k == byte) ≡ true → ⊥) → HasNone byte text
 none_in byte text none = subst (HasNone byte) (take-length text) (none_before byte (length text) text (omega arith) none)
 

@@ -23,7 +23,7 @@ four_digits n ge lt =
 ports_are : (first i : ℕ) (e : Entry) → IsEntered first i e → ports_text e ≡ two_ports first i
 ports_are first i e is = ap₂ (λ (x y : ℕ). port_name load_shape (record { 0 = x }) ++ codes "," ++ port_name load_shape (record { 0 = y })) is.0 is.1
 
--- the way behind a tag, in one part or in three
+-- the way after a tag, in one part or in three
 way_is : (two : Bool) → (if two then codes "::2WAY;" else codes "::1WAY;") ≡ codes "::" ++ (if two then codes "2WAY" else codes "1WAY") ++ codes ";"
 way_is true = refl
 way_is false = refl

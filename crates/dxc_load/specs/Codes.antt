@@ -9,7 +9,7 @@ abbrev pub deny : ℕ
 deny = 68
 
 -- where a reader of responses is: in the response to the log-in; with so many bytes and one more before the tag; in the tag; at the first
--- letter of the completion code; behind it, up to the response's end
+-- letter of the completion code; after it, up to the response's end
 pub data Spot : Type 0 where
   Login : Spot
   Front : ℕ → Spot
@@ -17,7 +17,7 @@ pub data Spot : Type 0 where
   Code : Spot
   Rest : Spot
 
--- where a reader is behind a byte: a response has 33 bytes before its tag, a blank behind it, and ends with a semicolon
+-- where a reader is behind a byte: a response has 33 bytes before its tag, a blank after it, and ends with a semicolon
 abbrev pub next_spot : Spot → ℕ → Spot
 next_spot Login b = if b == 59 then Front 32 else Login
 next_spot (Front zero) b = Tag
@@ -43,7 +43,7 @@ abbrev pub coded_from : ℕ → Spot → List ℕ → ℕ
 coded_from letter s [] = 0
 coded_from letter s (b ∷ bs) = codes_at letter s b + coded_from letter (next_spot s b) bs
 
--- and how many of the codes behind the first response, which is the log-in's
+-- and how many of the codes after the first response, which is the log-in's
 abbrev pub coded_in : ℕ → List ℕ → ℕ
 coded_in letter bs = coded_from letter Login bs
 
@@ -52,14 +52,14 @@ abbrev pub HasNone : ℕ → List ℕ → Type 0
 HasNone byte [] = Unit {0}
 HasNone byte (b ∷ bs) = ((b == byte) ≡ false) × HasNone byte bs
 
--- what stands behind the first byte of this value
+-- what stands after the first byte of this value
 abbrev pub IsBehind : ℕ → List ℕ → List ℕ → Type 0
 IsBehind byte text rest = (front : List ℕ) × HasNone byte front × (text ≡ front ++ byte ∷ rest)
 
--- in a text that begins in a response, no code stands behind it
+-- in a text that begins in a response, no code stands after it
 abbrev pub HasNoCode : List ℕ → Type 0
 HasNoCode text = (letter : ℕ) → coded_from letter Rest text ≡ 0
 
--- or the first one begins with this letter, and the rest stands behind it
+-- or the first one begins with this letter, and the rest stands after it
 abbrev pub IsNextCode : List ℕ → ℕ → List ℕ → Type 0
 IsNextCode text b rest = ((letter : ℕ) → coded_from letter Rest text ≡ code_of letter b + coded_from letter Rest rest) × (length rest < length text)

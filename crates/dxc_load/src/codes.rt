@@ -13,7 +13,7 @@ pub struct Codes {
 /// How many bytes a response of the load has in front of its tag: a header of 30, since its SID has four, then an M and two blanks.
 const FRONT: usize = 33;
 
-/// What stands behind the byte that ends a response.
+/// What stands after the byte that ends a response.
 #[inline(always)]
 fn behind_end(text: &[u8]) -> Option<&[u8]>
     ensures { MatchOption result (HasNone 59 text.now) (λ rest. IsBehind 59 text.now rest.now) }
@@ -22,7 +22,7 @@ fn behind_end(text: &[u8]) -> Option<&[u8]>
     Some(&text[at + 1..])
 }
 
-/// What stands behind the first blank, before which there are few bytes.
+/// What stands after the first blank, before which there are few bytes.
 fn behind_blank(text: &[u8]) -> Option<&[u8]>
     ensures { MatchOption result (HasNone 32 text.now) (λ rest. IsBehind 32 text.now rest.now) }
 {
@@ -34,7 +34,7 @@ fn behind_blank(text: &[u8]) -> Option<&[u8]>
     None
 }
 
-/// The first letter of the next response's completion code, and what stands behind it. The text begins in the response before. Behind the
+/// The first letter of the next response's completion code, and what stands after it. The text begins in the response before. After the
 /// tag stand a blank and the code.
 fn next_code(text: &[u8]) -> Option<(u8, &[u8])>
     ensures { MatchOption result (HasNoCode text.now) (λ p. IsNextCode text.now p.0 p.1.now) }
@@ -61,7 +61,7 @@ impl Codes {
     }
 }
 
-/// Counts the completion codes of the responses behind the first, which is the log-in's.
+/// Counts the completion codes of the responses after the first, which is the log-in's.
 pub fn codes_in(written: &[u8]) -> Codes
     ensures completed { result.completed ≡ coded_in compld written.now }
     ensures denied { result.denied ≡ coded_in deny written.now }

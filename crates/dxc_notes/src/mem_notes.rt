@@ -12,7 +12,7 @@ pub struct MemNotes {
 }
 
 impl MemNotes {
-    /// What it is told comes behind what `kept` holds.
+    /// What it is told comes after what `kept` holds.
     pub fn new(kept: Vec<Note>, standing: Standing) -> MemNotes
         ensures kept { result.kept.items ≡ kept.items }
         ensures dropped { result.dropped ≡ 0 }

@@ -1,4 +1,4 @@
--- The askings of a call, one behind the other.
+-- The askings of a call, one after the other.
 use Rattle.std.proofs.Common.{◌≡◌, ℕ, ◌+◌, ◌-◌, List, [], ◌∷◌, ◌++◌, length, replicate, Ok, Err, ap, ◌∙◌, arith, length-append}
 use Rattle.std.proofs.lemmas.List.{replicate_more, replicate-append-replicate}
 use Rattle.dxc_num.specs.declared.register.RegWrite.{RegWrite}
@@ -34,7 +34,7 @@ sum_asked n m (Ok Done) = omega arith
 sum_asked n m (Ok (InFrame f)) = omega arith
 sum_asked n m (Err e) = omega arith
 
--- the askings of a call behind those of earlier ones
+-- the askings of a call after those of earlier ones
 pub asked_behind : (first mid last : List RegWrite) (writes more : List RegWrite) (a : Answer) → first ≡ writes ++ mid → mid ≡ more ++ last → asked_at first mid (Ok Done) ++ asked_at mid last a ≡ asked_at first last a
 asked_behind first mid last writes more a e h =
     let n = shorter first writes mid e in
@@ -42,7 +42,7 @@ asked_behind first mid last writes more a e h =
     let whole : (length first - length mid) + (length mid - length last) ≡ length first - length last = omega arith in
     replicate-append-replicate (length first - length mid) (askings (length mid - length last) a) Register ∙ ap times (sum_asked (length first - length mid) (length mid - length last) a ∙ ap (λ (k : ℕ). askings k a) whole)
 
--- what comes behind the writes in hand changes nothing
+-- what comes after the writes in hand changes nothing
 pub asked_in_front : (before left behind : List RegWrite) (a : Answer) → asked_at before left a ≡ asked_at (before ++ behind) (left ++ behind) a
 asked_in_front before left behind a =
     let n = length-append before behind in

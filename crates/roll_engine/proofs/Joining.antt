@@ -24,7 +24,7 @@ none_there zero i = refl
 none_there (suc n) zero = refl
 none_there (suc n) (suc i) = none_there n i
 
--- a route among the first ones, with none behind them, is there whatever comes behind
+-- a route among the first ones, with none after them, is there whatever comes after
 first_route : (xs rs : List (Option Route)) (n i : ℕ) (w : Route) → get_or (xs ++ no_routes n) i None ≡ Some w → (i < length xs) × (get_or (xs ++ rs) i None ≡ Some w)
 first_route [] rs n i w at = absurd (let h : None ≡ Some w = sym (none_there n i) ∙ at in cc)
 first_route (x ∷ xs) rs n zero w at = (omega arith, at)

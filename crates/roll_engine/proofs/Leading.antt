@@ -77,7 +77,7 @@ cold_leading_on z c old new m m' h k = record {
   room = let n = switch_counted z k.writes m m' k.runs in let s = switches_join k.writes (left_of c m' new) in let same = ap switches_in k.split in let room = h.room in omega arith;
 }
 
--- what comes behind the work in hand stays the same while that is made
+-- what comes after the work in hand stays the same while that is made
 pub behind_kept : (z : Size) (c : Colouring) (old new : RollingAt) (m m' : Mover) → GoesOn z old new m m' → left_behind c (legs_then m old) old.behind ≡ left_behind c (legs_then m' new) new.behind
 behind_kept z c old new m m' h =
     let ws : List RegWrite = h.advances.writes in

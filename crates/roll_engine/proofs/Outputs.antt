@@ -34,13 +34,13 @@ not_there c y n p low h = none (route_at c y.0) refl
     none None at = refl
     none (Some w) at = let le = (p.inside (leg_between w.input y) w.middle.0 at).1 in absurd (h w.middle.0 (omega arith) w at refl)
 
--- the joins behind an output without a leg
+-- the joins after an output without a leg
 pub behind_none : (rs : List (Option Route)) (b n : ℕ) → n < length rs → slice_index_or rs n None ≡ None → joins_from b (drop n rs) ≡ joins_from (b + 1) (drop (n + 1) rs)
 behind_none [] b n low at = let no : ⊥ = omega arith in absurd no
 behind_none (r ∷ rs) b zero low at = ap (λ (o : Option Route). joins_from b (o ∷ rs)) at
 behind_none (r ∷ rs) b (suc n) low at = let h : suc n + 1 ≡ suc (n + 1) = omega arith in behind_none rs b n (omega arith) at ∙ ap (λ (k : ℕ). joins_from (b + 1) (drop k (r ∷ rs))) (sym h)
 
--- and behind one with a leg
+-- and after one with a leg
 pub behind_some : (rs : List (Option Route)) (b n : ℕ) (w : Route) → slice_index_or rs n None ≡ Some w → joins_from b (drop n rs) ≡ join_writes (leg_between w.input (record { 0 = b })) w.middle ++ joins_from (b + 1) (drop (n + 1) rs)
 behind_some [] b n w at = absurd (let h : None ≡ Some w = at in cc)
 behind_some (r ∷ rs) b zero w at = ap (λ (o : Option Route). joins_from b (o ∷ rs)) at

@@ -1,4 +1,4 @@
--- Runs of writes, one behind the other, and what holds at every part that a run passes.
+-- Runs of writes, one after the other, and what holds at every part that a run passes.
 use Rattle.std.proofs.Common.{◌≡◌, ◌≢◌, ℕ, zero, suc, ◌+◌, ◌<◌, List, [], ◌∷◌, ◌++◌, length, get_or, set, take, drop, sym, refl, ap, ap₂, ◌∙◌, subst, arith, Some, None, get_or-set_same, append_assoc, append-nil}
 use mathlib.Core.Logic.{dite}
 use Rattle.dxc_num.specs.declared.port.Leg.{Leg}

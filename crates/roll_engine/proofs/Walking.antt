@@ -1,4 +1,4 @@
--- The next writes, one call behind the other.
+-- The next writes, one call after the other.
 use Rattle.std.proofs.Common.{◌≡◌, ◌≤◌, ℕ, List, [], ◌∷◌, ◌++◌, Some, Option, Ok, Err, true≢false, sym, refl, ap, ◌∙◌, subst, arith, length-append, append_assoc}
 use Rattle.std.specs.Prelude.{IsErr, slice_get}
 use Rattle.dxc_causes.specs.Causes.{Rose}
@@ -102,7 +102,7 @@ module _ {G : Type 0} (stops : G → ℕ) (asks : G → G → List GatePlace →
         (on g h g' (asked_at (rest_of old) (rest_of mid) (Ok Done)) (asked_at (rest_of mid) (rest_of new) answer) one.asked two.asked);
   }
 
-  -- the same behind an answer that is Done
+  -- the same after an answer that is Done
   pub walks_then : ((old between new : G) (before after : List GatePlace) → asks old between before → asks between new after → asks old new (before ++ after)) → (old mid new : RollingAt) (m a b : Mover) (g h g' : G) (before answer : Answer)
       → before ≡ Ok Done → Walks stops asks z old mid m a g h before → Walks stops asks z mid new a b h g' answer → Walks stops asks z old new m b g g' answer
   walks_then on old mid new m a b g h g' before answer done one two = walks_on on old mid new m a b g h g' answer (subst (λ (x : Answer). Walks stops asks z old mid m a g h x) done one) two

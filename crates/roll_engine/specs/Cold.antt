@@ -61,7 +61,7 @@ pub record IsNextHeld (d : Dimensions) (legs : List (Option Route)) (y : Port) (
   pub low : next.0.0 < ports d
   pub parts : parts_behind legs y.0 ≡ part_writes (leg_between next.1.input next.0) next.1.middle ++ parts_behind legs (next.0.0 + 1)
 
--- the writes that come behind the work in hand, where these legs stand when it is made
+-- the writes that come after the work in hand, where these legs stand when it is made
 abbrev pub left_behind : Colouring → List (Option Route) → Behind → List RegWrite
 left_behind c legs Nothing = []
 left_behind c legs (PartsFrom y) = parts_behind legs y.0 ++ joins_of c
@@ -71,11 +71,11 @@ left_behind c legs (JoinsFrom y) = joins_behind c y.0
 abbrev pub legs_then : Mover → RollingAt → List (Option Route)
 legs_then m r = (course_after (rest_of r) (course_of m)).legs
 
--- the writes that are left of the work in hand, and then those of what comes behind it
+-- the writes that are left of the work in hand, and then those of what comes after it
 abbrev pub left_of : Colouring → Mover → RollingAt → List RegWrite
 left_of c m r = rest_of r ++ left_behind c (legs_then m r) r.behind
 
--- how many outputs are still to be looked at behind the work in hand, for a leg to be parted or joined, and one more as long as legs are parted
+-- how many outputs are still to be looked at after the work in hand, for a leg to be parted or joined, and one more as long as legs are parted
 abbrev pub outputs_left : ℕ → Behind → ℕ
 outputs_left n Nothing = 0
 outputs_left n (PartsFrom y) = (n - y.0) + n + 1

@@ -12,7 +12,7 @@ use Rattle.roll_engine.specs.Courses.{Goes, course_of, course_after, at_rest}
 use Rattle.roll_engine.specs.Stages.{IsAtRestOn}
 use Rattle.roll_engine.specs.Cold.{joins_of, left_of, IsColdAt, IsColdFrom}
 
--- each of the writes may come next at its turn, and behind the last one the registers are at rest on the colouring
+-- each of the writes may come next at its turn, and after the last one the registers are at rest on the colouring
 pub record IsLeading (z : Size) (c : Colouring) (ws : List RegWrite) (m : Mover) : Type 0 where
   pub sized : IsSize z
   pub shape : c.shape ≡ z.shape

@@ -7,7 +7,7 @@ use Rattle.roll_plan.specs.declared.work.Work.{Work}
 use Rattle.roll_plan.specs.Works.{moves_of, writes_of}
 use Rattle.roll_engine.specs.declared.rolling.Behind.{Behind}
 
--- a work in hand of which the first `step` writes are made, and what comes behind it
+-- a work in hand of which the first `step` writes are made, and what comes after it
 pub record RollingAt : Type 0 where
   pub work : Work
   pub step : ℕ

@@ -73,7 +73,7 @@ abbrev pub IsReadyMidway : Type 0
 IsReadyMidway = (z : Size) (c : Colouring) (ops : List LegOp) (t : ℕ) (m : Mover) → IsProperColouring c → AreValidOps c ops → IsMidway z c (ops_writes ops) t m
     → length m.log + switches_in (drop t (ops_writes ops)) ≤ 2 ^ 48 → IsReady z (drop t (ops_writes ops)) m
 
--- and the stage behind the last write is at rest on the colouring after the work
+-- and the stage after the last write is at rest on the colouring after the work
 abbrev pub IsDoneAtRest : Type 0
 IsDoneAtRest = (z : Size) (c : Colouring) (ops : List LegOp) (t : ℕ) (m : Mover) → IsProperColouring c → AreValidOps c ops → IsMidway z c (ops_writes ops) t m
     → drop t (ops_writes ops) ≡ [] → IsAtRestOn z (after_ops ops c) m

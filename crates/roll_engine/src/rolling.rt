@@ -10,7 +10,7 @@ mod joins;
 mod next;
 mod parts;
 
-/// What comes behind the work in hand.
+/// What comes after the work in hand.
 #[derive(Clone, Copy, PartialEq, Eq)]
 pub enum Behind {
     /// Nothing.

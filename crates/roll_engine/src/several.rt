@@ -1,4 +1,4 @@
-//! The next one to five writes of the work in hand, one behind the other.
+//! The next one to five writes of the work in hand, one after the other.
 ghost use Rattle.std.specs.Prelude.{◌≡◌, ◌+◌, ◌<◌, Ok, Some, slice_get};
 ghost use Rattle.roll_plan.specs.Works.{writes_of};
 ghost use Rattle.roll_plan.specs.Nexts.{Begins, BeginsMove};
@@ -76,7 +76,7 @@ fn write_two<G: Gate>(
     write_on(fabric, mover, rolling, made, second, gate)
 }
 
-/// Makes the next writes of the work in hand, which are those of a move. Done: all five are made. They stand one behind the other, and not
+/// Makes the next writes of the work in hand, which are those of a move. Done: all five are made. They stand one after the other, and not
 /// in a loop, so that each is compiled for its own kind.
 #[inline(always)]
 pub(crate) fn move_on<G: Gate>(

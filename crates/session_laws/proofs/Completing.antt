@@ -74,7 +74,7 @@ made_granted t u op Taken c step is = absurd (let e : None ≡ Some c = is in cc
 abbrev IsPlacedAt : Past → Type 0
 IsPlacedAt b = IsPlaced b.fold.table b.fold.colours
 
--- the same behind one change, or none
+-- the same after one change, or none
 placed_with : (b g : Past) (m : Option Change) (cs : List Change) → IsPlacedAt b → ((c : Change) → m ≡ Some c → MayTake b.fold.table c) → ReckonsTo b (option_to_list m ++ cs) g
     → (x : Past) × IsPlacedAt x × (x.fold.table ≡ with_change b.fold.table m) × ReckonsTo x cs g
 placed_with b g None cs placed may r = (b, placed, refl, r)

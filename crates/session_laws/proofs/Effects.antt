@@ -1,4 +1,4 @@
--- How often the gate was asked behind the writes of a work.
+-- How often the gate was asked after the writes of a work.
 use Rattle.std.specs.Prelude.{replicate, if◌then◌else◌}
 use Rattle.std.proofs.Common.{◌≡◌, ◌≢◌, ◌≤◌, ℕ, ◌+◌, Bool, false, arith, List, [], ◌∷◌, ◌++◌, suc, zero, inl, inr, refl, sym, ◌∙◌, ap}
 use Rattle.std.proofs.lemmas.Bool.Decides.{eqb_tells}

@@ -36,7 +36,7 @@ pub shape_fault : (t : Members) (sid : List ℕ) (f : ShelfFault) → value_at (
 shape_fault t sid f s e = inr (first_skips (fault_at keys.Sid 0 (codes "sid") sid_of t) _ (Some f) (no_fault keys.Sid 0 (get_member (codes "sid") t) sid_of sid s)
     (first_stays (fault_at keys.Modules 0 (codes "modules") modules_of t ∷ (fault_at keys.Slots 0 (codes "slots") slots_of t ∷ [])) _ f e))
 
--- what comes behind the first three checks
+-- what comes after the first three checks
 pub behind_shape : (t : Members) (sid : List ℕ) (d : Dimensions) (o : Option ShelfFault) → TopRead t sid d
     → first_some (fault_if_there keys.Equipped 0 (option_map (equipped_of (module_count t)) (get_member (codes "equipped") t)) ∷ (fault_if_there keys.Idle 0 (option_map idle_of (get_member (codes "idle") t)) ∷ (fault_at keys.User 0 (codes "user") users_of t ∷ users_checks (users_at t)))) ≡ o → first_fault t ≡ o
 behind_shape t sid d o r e =

@@ -47,7 +47,7 @@ checks_split us i n = let e : 0 + i ≡ i = omega arith in
 checks_same : (us : List Members) (es : List UserEntry) (i : ℕ) → AreUsers (take i us) es → user_checks us i ≡ checks_of (names_in es) (i + 1) (get_or us i no_members)
 checks_same us es i a = ap (λ (ns : List (List ℕ)). checks_of ns (i + 1) (get_or us i no_members)) (names_same (take i us) es a)
 
--- the first fault of a user behind faultless ones is the first of all
+-- the first fault of a user after faultless ones is the first of all
 pub fault_among : (us : List Members) (es : List UserEntry) (i : ℕ) (f : ShelfFault) → i < length us → AreUsers (take i us) es → first_some (checks_up_to us i) ≡ None → IsFaultOf (checks_of (names_in es) (i + 1) (get_or us i no_members)) f → IsFaultOf (users_checks us) f
 fault_among us es i f l a n (inl e) = inl e
 fault_among us es i f l a n (inr e) = let m : length us ≡ i + suc (length us - suc i) = omega arith in

@@ -77,7 +77,7 @@ key_checks number u =
 abbrev pub name_check : List (List ℕ) → ℕ → Members → Option ShelfFault
 name_check earlier number u = if is_taken earlier (value_at (codes "uid") uid_of u) then Some (TwoUsers number) else None
 
--- the checks of a user behind these names: its keys, and then its name
+-- the checks of a user after these names: its keys, and then its name
 abbrev pub checks_of : List (List ℕ) → ℕ → Members → List (Option ShelfFault)
 checks_of earlier number u = key_checks number u ++ name_check earlier number u ∷ []
 

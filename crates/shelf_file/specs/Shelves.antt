@@ -16,7 +16,7 @@ pub record IsDescribed (e : UserEntry) : Type 0 where
 unfoldable pub AreDescribed : List UserEntry → Type 0
 AreDescribed es = AllByRecursion IsDescribed es
 
--- the minutes of a class, behind which a session without a byte ends
+-- the minutes of a class, after which a session without a byte ends
 abbrev pub limit_for : IdleLimits → Class → Option ℕ
 limit_for i R = i.r
 limit_for i P = i.p

@@ -119,7 +119,7 @@ spelled_all-append (i ∷ xs) ys = ap (λ (l : List ℕ). spelled i.number i.act
 pub spelled_more : (acts more : List Act) (n : ℕ) → spelled_all (numbered n (acts ++ more)) ≡ spelled_all (numbered n acts) ++ spelled_all (numbered (n + length acts) more)
 spelled_more acts more n = ap spelled_all (numbered-append acts more n) ∙ spelled_all-append (numbered n acts) (numbered (n + length acts) more)
 
--- acts, and more behind them
+-- acts, and more after them
 pub sends_more : (told : Type 0) (a b c : LinkState) (n m k : ℕ) (lost : Option Lost) (acts more : List Act) → SentActs told a b n m None acts → SentActs told b c m k lost more → SentActs told a c n k lost (acts ++ more)
 sends_more told a b c n m k lost acts more first next =
     let whole = first.whole refl in

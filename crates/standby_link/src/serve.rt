@@ -87,7 +87,7 @@ fn serve<K: Link, D: Disk>(link: &mut K, disk: &mut D) -> StandbyEnd
     StandbyEnd::Spent
 }
 
-/// One read behind the bytes in hand, and what is to be done for what it brought. Answers how many bytes are in hand then.
+/// One read after the bytes in hand, and what is to be done for what it brought. Answers how many bytes are in hand then.
 fn turn<K: Link, D: Disk>(
     inbox: &mut [u8; ITEM],
     held: usize,

@@ -105,7 +105,7 @@ of_table_append (e ∷ es) fs = ap (λ (l : List AnyEntry). let x : AnyEntry = i
 used_behind : (p : ℕ) (w : List AnyEntry) (es fs : List Entry) → (w ++ used_of p es) ++ used_of p fs ≡ w ++ used_of p (es ++ fs)
 used_behind p w es fs = append_assoc w (used_of p es) (used_of p fs) ∙ ap (λ (l : List AnyEntry). w ++ l) (sym (filter-append (is_used p) (of_table es) (of_table fs)) ∙ ap (filter (is_used p)) (sym (of_table_append es fs)))
 
--- what takes no entry may be asked behind any history
+-- what takes no entry may be asked after any history
 module _ (r : Rules) (p : ℕ) (excused : Excuse) where
   no_one : {X : Type 0} (x : X) → [] ≡ x ∷ [] → ⊥
   no_one x is = let k = ap length is in omega (arith, k)
@@ -153,7 +153,7 @@ module _ {U M : Type 0} (l : Language U M) (r : Rules) (excused : Excuse) (past 
   abbrev At : List (Turn U M) → Element U M → Users → Type 0
   At ts e us = ArePlayedAlong l r.limit excused start o failing ts e us
 
-  -- a moment of these turns, behind these entries, since which the sessions came to those
+  -- a moment of these turns, after these entries, since which the sessions came to those
   pub record Passed (front : List AnyEntry) (ts : List (Turn U M)) (f : ℕ → Desk) : Type 0 where
     pub later : List (Turn U M)
     pub earlier : List (Turn U M)
@@ -214,7 +214,7 @@ module _ {U M : Type 0} (l : Language U M) (r : Rules) (excused : Excuse) (past 
   this_moment : (m : List AnyEntry) (ts : List (Turn U M)) (f : ℕ → Desk) → At ts (element r.table (past ++ at_table m) f) (users_after o (at_users m)) → Passed m ts f
   this_moment m ts f x = record { later = []; earlier = ts; order = refl; sessions = f; come = x; begun = λ p. all_stay IsBegun stays goes_further (f p) }
 
-  -- one entry more, behind which the element stands so
+  -- one entry more, after which the element stands so
   entered : (m : List AnyEntry) (x : AnyEntry) (ts : List (Turn U M)) (f : ℕ → Desk) → Passes m ts f → At ts (element r.table (past ++ at_table (m ++ x ∷ [])) f) (users_after o (at_users (m ++ x ∷ []))) → Passes (m ++ x ∷ []) ts f
   entered m x ts f before now = λ front back is. elim (ended back) [
     | inl none ↦ subst (λ (k : List AnyEntry). Passed k ts f) (is ∙ ap (λ (k : List AnyEntry). front ++ k) none ∙ append-nil front) (this_moment (m ++ x ∷ []) ts f now)
@@ -250,7 +250,7 @@ module _ {U M : Type 0} (l : Language U M) (r : Rules) (excused : Excuse) (past 
   changes_more : (h : List Entry) (e : Entry) → changes_of (h ++ e ∷ []) ≡ changes_of h ++ option_to_list (made e.outcome)
   changes_more h e = changes_append h (e ∷ []) ∙ ap (λ (cs : List Change). changes_of h ++ cs) (append-nil (option_to_list (made e.outcome)))
 
-  -- where the element stands behind an entry
+  -- where the element stands after an entry
   lands : (ts : List (Turn U M)) (h : List Entry) (e : Entry) (p : ℕ) (x y : Desk) (f : ℕ → Desk) (did : Option Change) (ops : List Op) (st : Standing) (us : Users) → did ≡ made e.outcome → ops ≡ doubted_by_entry (doubted_in [] h) e.op e.outcome
       → st ≡ standing_by_entry (standing_in ready h) e.op e.outcome
       → At ts (record { table = with_change (table_after r.table h) did; changes = changes_of h ++ option_to_list did; doubted = ops; standing = st; sessions = placed p x (placed p y f) }) us
@@ -310,7 +310,7 @@ module _ {U M : Type 0} (l : Language U M) (r : Rules) (excused : Excuse) (past 
       goes : (h : List Entry) → AreBegun IsBegun first (then h)
       goes h = newest_went_on IsBegun stays goes_further s (answered u x (attending_after s.attending (length (changes_of h)) k) s) ss first refl (answered_on u x (attending_after s.attending (length (changes_of h)) k) s)
 
-      -- a unit that takes no entry of the table is answered behind any history of it, by what the users tell
+      -- a unit that takes no entry of the table is answered after any history of it, by what the users tell
       free : (h g : List Entry) (before after : Users) (f : ℕ → Desk) (ts : List (Turn U M)) → Serves p r.table h k [] reply → HearsOf o.shelf.sid failing before (l.wants s.attending.user u) (l.heard u) after
           → At ts (element r.table g (placed p first f)) before → At (answer p u m ∷ ts) (element r.table g (placed p (then h) f)) after
       free h g before after f ts serves tells c =

@@ -1,4 +1,4 @@
--- What is in doubt behind a history is what the element keeps of it.
+-- What is in doubt after a history is what the element keeps of it.
 use Rattle.std.specs.List.{AllByRecursion}
 use Rattle.std.proofs.Common.{◌≡◌, ◌⊎◌, List, [], ◌∷◌, ◌++◌, Option, refl, sym, ◌∙◌, ap, subst, inl, inr}
 use Rattle.dxc_model.specs.declared.cause.Cause.{Cause}

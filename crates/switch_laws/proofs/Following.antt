@@ -76,7 +76,7 @@ module _ {U M : Type 0} (l : Language U M) (r : Rules) (excused : Excuse) (past 
   changes_more : (h : List Entry) (e : Entry) → changes_of (h ++ e ∷ []) ≡ changes_of h ++ option_to_list (made e.outcome)
   changes_more h e = changes_append h (e ∷ []) ∙ ap (λ (cs : List Change). changes_of h ++ cs) (append-nil (option_to_list (made e.outcome)))
 
-  -- where the element stands behind an entry
+  -- where the element stands after an entry
   lands : (h : List Entry) (e : Entry) (p : ℕ) (x y : Desk) (f : ℕ → Desk) (did : Option Change) (ops : List Op) (st : Standing) → did ≡ made e.outcome → ops ≡ doubted_by_entry (doubted_in [] h) e.op e.outcome
       → st ≡ standing_by_entry (standing_in ready h) e.op e.outcome
       → ComesTo l r.limit excused start (record { table = with_change (table_after r.table h) did; changes = changes_of h ++ option_to_list did; doubted = ops; standing = st; sessions = placed p x (placed p y f) })

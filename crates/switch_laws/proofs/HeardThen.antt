@@ -49,7 +49,7 @@ module _ {U : Type 0} where
   begun_later [] ss s x = tt
   begun_later (r ∷ older) ss s (newer, t, is, x) = (s ∷ newer, t, ap (λ (ts : List (Hearing U)). s ∷ ts) is, x)
 
--- the session of a place begins behind this beginning of the history, or had come so far along it
+-- the session of a place begins after this beginning of the history, or had come so far along it
 pub data Came {U M : Type 0} (l : Language U M) (place : ℕ) (o : Opening) (h a : List UserEntry) (hs : List (Happening U)) : Type 0 where
   later : (m : List UserEntry) → h ≡ a ++ m → Came l place o h a hs
   so_far : (front more : List (Happening U)) (r : SessionUser) → hs ≡ front ++ more → Consults l place o h front a r → Came l place o h a hs
@@ -105,7 +105,7 @@ module _ {U M : Type 0} (l : Language U M) (place : ℕ) (o : Opening) where
   cut_others g ss e other x a b [] is p q = cut_all a g ss (sym (p ∙ append-nil g)) x
   cut_others g ss e other x a b (y ∷ m) is p q = cut_all a (g ++ e ∷ []) ss (whole_is g (e ∷ []) a b is (nothing_left (e ∷ []) m b y one_only q)) (others_asked g ss e other x)
 
-  -- one session more began behind it
+  -- one session more began after it
   cut_later : (a : List UserEntry) (s : Hearing U) (ss : List (Hearing U)) → Cut a ss → Cut a (s ∷ ss)
   cut_later a s ss x = record { heard = x.heard; listens = x.listens; begun = begun_later x.heard ss s x.begun }
 

@@ -42,7 +42,7 @@ module _ {A B W : Type 0} (place : A ⊎ B → ℕ) (Idle : A ⊎ B → Type 0) 
   abbrev pub Anywhere : ℕ → W → W → Type 0
   Anywhere p v w = (m : List E) (f : ℕ → W) → Good m → Pl m (placed p v f) → Pl m (placed p w f)
 
-  -- one that takes an entry of the table behind this history of it, and one that takes an entry of the users
+  -- one that takes an entry of the table after this history of it, and one that takes an entry of the users
   abbrev pub TakesAt : ℕ → List A → A → W → W → Type 0
   TakesAt p h e v w = (m : List E) (f : ℕ → W) → past ++ at_table m ≡ h → Good (m ++ inl e ∷ []) → Pl m (placed p v f) → Pl (m ++ inl e ∷ []) (placed p w f)
 
@@ -89,7 +89,7 @@ module _ {A B W : Type 0} (place : A ⊎ B → ℕ) (Idle : A ⊎ B → Type 0) 
     drop_users e g _ _ _ _ (takes h k o d v w us on s) eq un = takes h g o d v w us on (drop_users e g h k o v s eq un)
     drop_users e g _ _ _ _ (hears h k o d v w us on s) eq un = absurd (differ (inr d) (inr e) (ap (λ (x : B). let y : E = inr x in y) (snoc_once k g d e eq).1) us un)
 
-    -- its last own entry is this one of the table, behind which it took none
+    -- its last own entry is this one of the table, after which it took none
     record Took (h : List A) (g : List B) (o : List E) (e : A) (w : W) : Type 0 where
       pub before : W
       pub behind : W

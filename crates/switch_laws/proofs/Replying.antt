@@ -34,7 +34,7 @@ module _ (r : Rules) (own : ℕ) (excused : Excuse) where
   abbrev tab : List Entry → Board
   tab h = table_after r.table h
 
-  -- behind an entry that left a change in doubt, the disk's fault has an excuse
+  -- after an entry that left a change in doubt, the disk's fault has an excuse
   doubts : (h : List Entry) (c : Change) → AllByRecursion Ex h → IsInDoubt (tab h) h c → excused DiskFault
   doubts h c all x =
       let one : Ex x.entry = each_at Ex x.before x.entry x.behind (subst (λ (l : List Entry). AllByRecursion Ex l) x.whole all) in
@@ -151,7 +151,7 @@ module _ (r : Rules) (own : ℕ) (excused : Excuse) where
     pub stands : standing_after (standing_in ready h) k reply ≡ standing_in ready h
     pub may : MayReply (standing_in ready h) k reply
 
-  -- or one of its own, behind those that need no reply
+  -- or one of its own, after those that need no reply
   pub record Takes (h es : List Entry) (s : Attending) (k : Ask) (reply : Reply) : Type 0 where
     pub front : List Entry
     pub last : Entry

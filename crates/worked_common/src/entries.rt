@@ -1,4 +1,4 @@
-//! Many connections: each port's to the one so many behind it.
+//! Many connections: each port's to the one so many after it.
 use crate::words::{Line, add_texts, decimal, shape_of, small_of};
 use anyhow::Result;
 use std::alloc::Global;

@@ -2,7 +2,7 @@ use crate::words::{Line, number_of, two};
 use anyhow::{Result, ensure};
 use std::alloc::Global;
 
-/// Lines of a row, one behind the other, and the number for which the row is run.
+/// Lines of a row, one after the other, and the number for which the row is run.
 #[derive(Clone, Copy)]
 pub struct Part<'m, 'a> {
     pub lines: &'m [Line<'a>],
@@ -10,7 +10,7 @@ pub struct Part<'m, 'a> {
 }
 
 impl<'m, 'a> Part<'m, 'a> {
-    /// What stands behind the word, in the last line that begins with it.
+    /// What stands after the word, in the last line that begins with it.
     pub fn last(&self, word: &str) -> Option<&'a str> {
         let mut last = None;
         for line in self.lines {
@@ -53,7 +53,7 @@ impl<'m, 'a> Part<'m, 'a> {
         self.last(word).is_some()
     }
 
-    /// The number behind the word.
+    /// The number after the word.
     pub fn number_at(&self, word: &str) -> Result<Option<u64>> {
         match self.last(word) {
             Some(text) => Ok(Some(self.number_in(text)?)),

@@ -18,7 +18,7 @@ pub fn add_wanted(sid: &str, word: &str, rest: &str, into: &mut Vec<u8>) -> Resu
     Ok(true)
 }
 
-/// Appends the header of the fixed clock, and these texts behind it.
+/// Appends the header of the fixed clock, and these texts after it.
 pub fn add_message(sid: &str, texts: &[&str], into: &mut Vec<u8>) -> Result<()> {
     add_texts(&["\r\n\n   ", sid, " 26-03-01 12:00:00\r\n"], into)?;
     add_texts(texts, into)
@@ -87,7 +87,7 @@ pub fn add_report(sid: &str, number: &str, text: &str, into: &mut Vec<u8>) -> Re
     )
 }
 
-// Appends a response COMPLD with rows, which stand behind its tag.
+// Appends a response COMPLD with rows, which stand after its tag.
 fn add_rows(sid: &str, rest: &str, into: &mut Vec<u8>) -> Result<()> {
     let tag = Line::of(rest);
     add_message(sid, &["M  ", tag.word, " COMPLD\r\n"], into)?;

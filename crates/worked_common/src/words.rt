@@ -1,10 +1,10 @@
-//! What a line of a row is made of. Programs take apart and put together texts by these calls alone: what stands behind them is then proved once.
+//! What a line of a row is made of. Programs take apart and put together texts by these calls alone: what stands after them is then proved once.
 
 use anyhow::{Context, Result, bail, ensure};
 use std::alloc::Global;
 use std::fmt::Debug;
 
-/// A line of a row: its first word and what stands behind it, which may be nothing.
+/// A line of a row: its first word and what stands after it, which may be nothing.
 #[derive(Clone, Copy)]
 pub struct Line<'a> {
     pub word: &'a str,
@@ -29,7 +29,7 @@ pub fn lines_of<'a>(alloc: Global, text: &'a str) -> Result<Vec<Line<'a>>> {
     Ok(lines)
 }
 
-/// The text in front of the first blank and that behind it.
+/// The text in front of the first blank and that after it.
 pub fn two(text: &str) -> Result<(&str, &str)> {
     text.split_once(' ').context("two words are wanted")
 }
@@ -67,14 +67,14 @@ pub fn decimal(alloc: Global, number: u64) -> Result<String> {
     Ok(number.to_string(alloc)?)
 }
 
-/// The texts one behind the other.
+/// The texts one after the other.
 pub fn joined(alloc: Global, texts: &[&str]) -> Result<String> {
     let mut all = String::new(alloc);
     push_texts(texts, &mut all)?;
     Ok(all)
 }
 
-/// Appends the texts one behind the other.
+/// Appends the texts one after the other.
 pub fn push_texts(texts: &[&str], into: &mut String) -> Result<()> {
     for text in texts {
         into.push_str(text)?;
@@ -82,7 +82,7 @@ pub fn push_texts(texts: &[&str], into: &mut String) -> Result<()> {
     Ok(())
 }
 
-/// The bytes of the texts one behind the other.
+/// The bytes of the texts one after the other.
 pub fn add_texts(texts: &[&str], into: &mut Vec<u8>) -> Result<()> {
     for text in texts {
         into.extend_from_slice(text.as_bytes())?;

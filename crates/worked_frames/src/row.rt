@@ -57,7 +57,7 @@ pub fn frames_said(alloc: Global, session: Part<'_, '_>, word: &str) -> Result<V
     Ok(frames)
 }
 
-/// An error where other numbers stand behind the word.
+/// An error where other numbers stand after the word.
 pub fn same_as_said(
     alloc: Global,
     session: Part<'_, '_>,

@@ -32,7 +32,7 @@ impl Worker {
     }
 }
 
-/// The number of the frame in hand, and how many come behind it.
+/// The number of the frame in hand, and how many come after it.
 #[derive(Clone, Copy)]
 struct Count {
     frame: u8,
@@ -41,7 +41,7 @@ struct Count {
 }
 
 impl Count {
-    // Goes on to the next frame; whether there is one. Behind the first frame at which all sessions are over, which is frame 0, comes
+    // Goes on to the next frame; whether there is one. After the first frame at which all sessions are over, which is frame 0, comes
     // frame 1.
     fn goes_on(&mut self, is_over: bool) -> bool {
         match self.left {
@@ -66,7 +66,7 @@ impl Count {
 pub struct WatchedLines {
     meeting: Arc<Meeting>,
     worker: Worker,
-    /// Its number behind the sessions.
+    /// Its number after the sessions.
     place: usize,
     known: Vec<Carried>,
     count: Count,
@@ -76,7 +76,7 @@ pub struct WatchedLines {
 }
 
 impl WatchedLines {
-    /// What the last frames carried comes behind what `last_frames` holds.
+    /// What the last frames carried comes after what `last_frames` holds.
     pub fn new(
         meeting: Arc<Meeting>,
         worker: Worker,

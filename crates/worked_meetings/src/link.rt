@@ -22,7 +22,7 @@ pub struct CueLink {
 }
 
 impl CueLink {
-    /// What is written comes behind what `output` holds.
+    /// What is written comes after what `output` holds.
     pub fn new(script: Script, number: usize, over: Option<u64>, output: Vec<u8>) -> CueLink {
         CueLink {
             script,

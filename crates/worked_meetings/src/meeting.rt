@@ -14,9 +14,9 @@ const TURNS: u32 = 30_000;
 /// What the threads of a row share.
 #[derive(Drop)]
 pub struct Meeting {
-    /// How often each point was come to, and behind these how many frames each worker has carried.
+    /// How often each point was come to, and after these how many frames each worker has carried.
     counts: Vec<AtomicU64>,
-    /// What each session was written, and behind these what each worker carried in its last two frames, once they are over.
+    /// What each session was written, and after these what each worker carried in its last two frames, once they are over.
     left: Vec<OnceLock<Vec<u8>>>,
     sessions: usize,
     /// How many bytes were carried from elsewhere than from their connection's input.
@@ -93,7 +93,7 @@ impl Meeting {
         self.reach(POINTS.saturating_add(worker));
     }
 
-    /// The session of that number is over, or the worker behind the sessions, and leaves this.
+    /// The session of that number is over, or the worker after the sessions, and leaves this.
     pub fn note_left(&self, number: usize, bytes: Vec<u8>) {
         if let Some(slot) = self.left.get(number) {
             let _ = slot.try_set(bytes);

@@ -226,7 +226,7 @@ fn compare_sessions(
     Ok(())
 }
 
-// Compares the last frames of each worker, whose numbers come behind those of so many sessions.
+// Compares the last frames of each worker, whose numbers come after those of so many sessions.
 fn compare_frames(
     alloc: Global,
     row: Part<'_, '_>,

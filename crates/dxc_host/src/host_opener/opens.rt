@@ -170,7 +170,7 @@ impl<
         }
     }
 
-    /// Also where nobody answers there: the link calls again then. ADDRESS`.users` is where the users' journal is copied: at the port behind ADDRESS's.
+    /// Also where nobody answers there: the link calls again then. ADDRESS`.users` is where the users' journal is copied: at the port after ADDRESS's.
     fn peer(&mut self, alloc: Global, address: &str) -> Opened<PeerLink<T>>
         ensures aside { StaysAside self.old self.new }
         ensures cause { HasCause self.old.faults self.new.faults (result ≡ Opened.Failed) }

@@ -50,7 +50,7 @@ fn next_leg(matrix: &Matrix, from: Port) -> Option<(Port, Route)>
 impl Rolling {
     ghost use Rattle.roll_engine.specs.declared.rolling.Behind.TheVariants.{JoinsFrom};
 
-    // The join of one leg, and then those of the outputs behind its own.
+    // The join of one leg, and then those of the outputs after its own.
     fn joining(output: Port, route: Route) -> Rolling
         requires { output.0 + 1 < 2 ^ 16 }
         ensures rest { rest_of result ≡ join_writes (leg_between route.input output) route.middle }

@@ -32,7 +32,7 @@ pub(super) fn next_held(fabric: &Fabric, mover: &mut MoverSeat, from: Port) -> O
 impl Rolling {
     ghost use Rattle.roll_engine.specs.declared.rolling.Behind.TheVariants.{PartsFrom};
 
-    // The part of one leg, and then those of the outputs behind its own.
+    // The part of one leg, and then those of the outputs after its own.
     pub(super) fn parting(output: Port, route: Route) -> Rolling
         requires { output.0 + 1 < 2 ^ 16 }
         ensures rest { rest_of result ≡ part_writes (leg_between route.input output) route.middle }

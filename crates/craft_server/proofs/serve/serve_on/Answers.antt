@@ -19,21 +19,6 @@ use Rattle.dxc_jobs.proofs.Faulting.{made_ends}
 use Rattle.craft_server.specs.Askings.{site_asked}
 use Rattle.craft_server.proofs.serve.serve_on.Goals as goal
 
-pub open_places-requires-clause-begins : goal.open_places-requires-clause-begins
-open_places-requires-clause-begins g c κs within = c.requires.ready.begins
-
-pub open_places-requires-clause-users_begin : goal.open_places-requires-clause-users_begin
-open_places-requires-clause-users_begin g c κs within = c.requires.ready.users_begin
-
-pub open_places-requires-clause-opening : goal.open_places-requires-clause-opening
-open_places-requires-clause-opening g c κs within = c.requires.ready.opening
-
-pub frame_jobs-requires-clause-seats : goal.frame_jobs-requires-clause-seats
-frame_jobs-requires-clause-seats g c κs within = c.requires.ready.seats
-
-pub frame_jobs-requires-clause-each : goal.frame_jobs-requires-clause-each
-frame_jobs-requires-clause-each g c κs within = c.requires.ready.each
-
 pub returns-in_default-clause-serving : goal.returns-in_default-clause-serving
 returns-in_default-clause-serving g c = none_started _ _ _ _ NoMemory (λ is. cc) (λ not. refl)
 
@@ -131,34 +116,34 @@ returns-clause-jobs g c = (
   λ done.
       let workers = c.in-Ok-frame_jobs.jobs in
       let sessions = c.in-Ok-session_jobs.jobs in
-      let o = opening_of g.D.Disk.state c.args.element.controller.state in
-      let p = users_opening g.D.Disk.state c.args.element.users in
+      let o = opening_of g.D.Disk.state c.args.state in
+      let p = users_opening g.D.Disk.state c.args.users in
       record {
         workers = workers.items;
         each = let ok = workers.ok.0 in let each = c.in-Ok-frame_jobs.ensures.jobs in omega (arith, ok, each);
-        seats = subst (λ (f : FabricId). AreJobsOf g.O.Opener.lines_for f c.args.site.lines.now 0 workers.items) (sym c.requires.ready.opening.fabric) c.in-Ok-frame_jobs.ensures.workers;
+        seats = subst (λ (f : FabricId). AreJobsOf g.O.Opener.lines_for f c.args.site.lines.now 0 workers.items) (sym c.requires.opening.fabric) c.in-Ok-frame_jobs.ensures.workers;
         sessions = sessions.items;
         sixteen = let ok = sessions.ok.0 in let all : vec_len sessions ≡ 16 = c.in-Ok-session_jobs.ensures.jobs ∙ c.in-Ok.ensures.each in omega (arith, ok, all);
-        places = subst (λ (l : List PlaceAt). HasPlaces (arc_value c.args.element.controller.shelf) o p 16 l) (sym c.in-Ok-session_jobs.ensures.places) c.in-Ok.ensures.places;
+        places = subst (λ (l : List PlaceAt). HasPlaces (arc_value c.args.shelf.now) o p 16 l) (sym c.in-Ok-session_jobs.ensures.places) c.in-Ok.ensures.places;
         listeners = c.in-Ok-session_jobs.ensures.listeners;
-        sized = ap (λ (f : FabricId). f.size) c.requires.ready.opening.fabric ∙ c.requires.ready.sized;
+        sized = ap (λ (f : FabricId). f.size) c.requires.opening.fabric ∙ c.requires.sized;
         handed = c.run_jobs.ensures.handed done;
         left = c.run_jobs.ensures.left done;
       },
   λ none.
       let workers = c.in-Ok-frame_jobs.jobs in
       let sessions = c.in-Ok-session_jobs.jobs in
-      let o = opening_of g.D.Disk.state c.args.element.controller.state in
-      let p = users_opening g.D.Disk.state c.args.element.users in
+      let o = opening_of g.D.Disk.state c.args.state in
+      let p = users_opening g.D.Disk.state c.args.users in
       record {
         workers = workers.items;
         each = let ok = workers.ok.0 in let each = c.in-Ok-frame_jobs.ensures.jobs in omega (arith, ok, each);
-        seats = subst (λ (f : FabricId). AreJobsOf g.O.Opener.lines_for f c.args.site.lines.now 0 workers.items) (sym c.requires.ready.opening.fabric) c.in-Ok-frame_jobs.ensures.workers;
+        seats = subst (λ (f : FabricId). AreJobsOf g.O.Opener.lines_for f c.args.site.lines.now 0 workers.items) (sym c.requires.opening.fabric) c.in-Ok-frame_jobs.ensures.workers;
         sessions = sessions.items;
         sixteen = let ok = sessions.ok.0 in let all : vec_len sessions ≡ 16 = c.in-Ok-session_jobs.ensures.jobs ∙ c.in-Ok.ensures.each in omega (arith, ok, all);
-        places = subst (λ (l : List PlaceAt). HasPlaces (arc_value c.args.element.controller.shelf) o p 16 l) (sym c.in-Ok-session_jobs.ensures.places) c.in-Ok.ensures.places;
+        places = subst (λ (l : List PlaceAt). HasPlaces (arc_value c.args.shelf.now) o p 16 l) (sym c.in-Ok-session_jobs.ensures.places) c.in-Ok.ensures.places;
         listeners = c.in-Ok-session_jobs.ensures.listeners;
-        sized = ap (λ (f : FabricId). f.size) c.requires.ready.opening.fabric ∙ c.requires.ready.sized;
+        sized = ap (λ (f : FabricId). f.size) c.requires.opening.fabric ∙ c.requires.sized;
         handed = tt;
         left = c.run_jobs.ensures.left_to none;
       },

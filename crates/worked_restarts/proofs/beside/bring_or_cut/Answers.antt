@@ -1,4 +1,4 @@
-use Rattle.std.proofs.Common.{List, [], ◌∷◌, ◌++◌, sym, inr}
+use Rattle.std.proofs.Common.{[], ◌∷◌, ◌++◌, sym, inr}
 use Rattle.dxc_model.specs.declared.entry.Outcome.TheVariants.{Cut, Done}
 use Rattle.xc_core.specs.Seeing.{entry}
 use Rattle.xc_core.proofs.Turning.{rests_now}
