@@ -38,12 +38,13 @@ use Rattle.craft_session.specs.Sessions.{Now, Beginning, Halts, IsAt, IsSaid, St
 use Rattle.craft_session.specs.Stamps.{Stamp, stamp_at}
 use Rattle.craft_session.specs.Timely.{IsTimely, reached, starting, telling}
 use Rattle.craft_session.proofs.Consulted.{Learns}
+use Rattle.craft_session.proofs.Done.{UnitTurned}
 use Rattle.craft_session.proofs.Learning.{cut_untold, given, given_as, replied_given, tells, tells_asked}
 use Rattle.craft_session.proofs.SessionSteps.{answered_in_time, goes_on, goes_cut, goes_stopped, goes_unheard, whole_ended, long_ended}
 use Rattle.craft_session.proofs.Timely.{timely_none}
 
 module _ (s : Contents) (first : SessionUser) (told clock_told : Type 0) (k j : LinkState) (c d : List Moment) (b : Beginning) (now : Now) (kind : UnitKind) (r : Reader) (ahead : List ℕ) (stands : Stands (language_for first s) told clock_told k j c d b now false kind r ahead)
-    (seat : SeatAt) (users : UserSeatAt) (at : IsAt b seat users) (j2 : LinkState) (d2 : List Moment) (after : Now) (users_seen : users.seen ≡ now.users) where
+    (seat : SeatAt) (users : UserSeatAt) (at : IsAt b seat users) (j2 : LinkState) (d2 : List Moment) (after : Now) (users_seen : users.seen ≡ now.users) (turned : UnitTurned b.place now after) where
   said : (sent : Sent) (u : Request) (reply : Reply) → IsReplied s told clock_told j j2 d d2 sent (tag_of u.input) (beside (rows_heard u.heard) u.stands) reply → IsSaid (language_for first s) told clock_told j j2 d d2 sent u reply
   said sent u reply x = record { moment = x.moment; wrote = x.wrote; now = x.now; later = x.later }
 
@@ -97,21 +98,21 @@ module _ (s : Contents) (first : SessionUser) (told clock_told : Type 0) (k j : 
 
     answered_by_stop : IsStoppedAt s j j2 d d2 u seat users now after → Halts (language_for first s) told clock_told k j2 c d2 b after
     answered_by_stop x = elim x.stopped [
-      | inl t ↦ goes_stopped (language_for first s) told clock_told k c b j d now r kind ahead stands (unit_untold t.heard) ended j2 d2 after x.link x.clock (untold t.heard t.stops, hears (wants s now.attending.user u) t.heard t.behind) (stops (asks s now.attending.user t.heard u) t.stops)
-      | inr t ↦ goes_unheard (language_for first s) told clock_told k c b j d now r kind ahead stands (unit_untold unasked) ended j2 d2 after t.unasked.op x.link x.clock t.unasked.wanted t.unasked.changing
+      | inl t ↦ goes_stopped (language_for first s) told clock_told k c b j d now r kind ahead stands (unit_untold t.heard) ended j2 d2 after turned x.link x.clock (untold t.heard t.stops, hears (wants s now.attending.user u) t.heard t.behind) (stops (asks s now.attending.user t.heard u) t.stops)
+      | inr t ↦ goes_unheard (language_for first s) told clock_told k c b j d now r kind ahead stands (unit_untold unasked) ended j2 d2 after turned.0 t.stamps t.unasked.op x.link x.clock t.unasked.wanted t.unasked.changing
           (there (λ o n seen. (h : List UserEntry) → SawUsers o seen h → TurnedBack o n h after.users) t.unasked.behind) t.seen t.attending
     ]
 
     pub answered : (how : Result Progress Stopped) → IsAnswered s told clock_told j j2 d d2 u seat users now after how → Goes (language_for first s) told clock_told k j2 c d2 b after how (is_some after.attending.watch) r ahead
-    answered (Ok On) x = goes_on (language_for first s) told clock_told k c b j d now r kind ahead stands (unit_told x.heard x.standing) ended j2 d2 x.reply after (said_on Whole x) (learns_told x.heard x.standing x.behind) (acts (asks s now.attending.user x.heard u) x.reply x.acts)
-    answered (Ok Cut) x = goes_cut (language_for first s) told clock_told k c b j d now r kind ahead stands (unit_told x.heard x.standing) ended j2 d2 x.reply after (said_on Sent_cut x) (learns_told x.heard x.standing x.behind) (acts (asks s now.attending.user x.heard u) x.reply x.acts)
+    answered (Ok On) x = goes_on (language_for first s) told clock_told k c b j d now r kind ahead stands (unit_told x.heard x.standing) ended j2 d2 x.reply after turned (said_on Whole x) (learns_told x.heard x.standing x.behind) (acts (asks s now.attending.user x.heard u) x.reply x.acts)
+    answered (Ok Cut) x = goes_cut (language_for first s) told clock_told k c b j d now r kind ahead stands (unit_told x.heard x.standing) ended j2 d2 x.reply after turned (said_on Sent_cut x) (learns_told x.heard x.standing x.behind) (acts (asks s now.attending.user x.heard u) x.reply x.acts)
     answered (Err e) x = answered_by_stop x
 
-    pub answered_timely : (stamped : Stamp → Type 0) (seat2 : SeatAt) (users2 : UserSeatAt) → IsAt b seat2 users2 → seat2.seen ≡ after.seen → users2.seen ≡ after.users → (how : Result Progress Stopped) → IsAnswered s told clock_told j j2 d d2 u seat users now after how
+    pub answered_timely : (stamped : Stamp → Type 0) (seat2 : SeatAt) (users2 : UserSeatAt) → IsAt b seat2 users2 → seat2.seen ≡ after.seen → users2.seen ≡ after.users → seat2.stamps ≡ after.stamps → users2.stamps ≡ after.users_stamps → (how : Result Progress Stopped) → IsAnswered s told clock_told j j2 d d2 u seat users now after how
         → (IsOk how → stamped (stamp_at d j seat2 users2)) → IsTimely (language_for first s) (telling told clock_told stamped) (starting k c b) j (reached j2.written seat2.seen users2.seen)
-    answered_timely stamped seat2 users2 at2 seen2 users_seen2 (Ok On) x was = answered_in_time (language_for first s) told clock_told k c b j d now r kind ahead stands (unit_told x.heard x.standing) j2 d2 ended.0 x.reply after (learns_told x.heard x.standing x.behind) (acts (asks s now.attending.user x.heard u) x.reply x.acts) stamped seat2 users2 Whole (said_on Whole x) at2 seen2 users_seen2 (was refl)
-    answered_timely stamped seat2 users2 at2 seen2 users_seen2 (Ok Cut) x was = answered_in_time (language_for first s) told clock_told k c b j d now r kind ahead stands (unit_told x.heard x.standing) j2 d2 ended.0 x.reply after (learns_told x.heard x.standing x.behind) (acts (asks s now.attending.user x.heard u) x.reply x.acts) stamped seat2 users2 Sent_cut (said_on Sent_cut x) at2 seen2 users_seen2 (was refl)
-    answered_timely stamped seat2 users2 at2 seen2 users_seen2 (Err e) x was = timely_none (language_for first s) (telling told clock_told stamped) (starting k c b) j (reached j2.written seat2.seen users2.seen) (ap (λ (y : LinkState). y.written) x.link)
+    answered_timely stamped seat2 users2 at2 seen2 users_seen2 stamps2 users_stamps2 (Ok On) x was = answered_in_time (language_for first s) told clock_told k c b j d now r kind ahead stands (unit_told x.heard x.standing) j2 d2 ended.0 x.reply after turned (learns_told x.heard x.standing x.behind) (acts (asks s now.attending.user x.heard u) x.reply x.acts) stamped seat2 users2 Whole (said_on Whole x) at2 seen2 users_seen2 stamps2 users_stamps2 (was refl)
+    answered_timely stamped seat2 users2 at2 seen2 users_seen2 stamps2 users_stamps2 (Ok Cut) x was = answered_in_time (language_for first s) told clock_told k c b j d now r kind ahead stands (unit_told x.heard x.standing) j2 d2 ended.0 x.reply after turned (learns_told x.heard x.standing x.behind) (acts (asks s now.attending.user x.heard u) x.reply x.acts) stamped seat2 users2 Sent_cut (said_on Sent_cut x) at2 seen2 users_seen2 stamps2 users_stamps2 (was refl)
+    answered_timely stamped seat2 users2 at2 seen2 users_seen2 stamps2 users_stamps2 (Err e) x was = timely_none (language_for first s) (telling told clock_told stamped) (starting k c b) j (reached j2.written seat2.seen users2.seen) (ap (λ (y : LinkState). y.written) x.link)
 
 -- a unit that ended, whole or too long
 pub input_ended : (l : Language Request Moment) (told clock_told : Type 0) (k j : LinkState) (c d : List Moment) (b : Beginning) (now : Now) (r : Reader) (ahead : List ℕ) (kind : UnitKind) (s : Stands l told clock_told k j c d b now false kind r ahead) → kind ≢ More → IsUnit s.rest (input_of kind r) × (hand r ≡ [])
@@ -152,8 +153,8 @@ module _ (s : Contents) (told clock_told : Type 0) (k j : LinkState) (c d : List
   }
 
 -- a stop at the users
-pub unheard_of : (s : Contents) (k : LinkState) (c : List Moment) (u : Input) (seat : SeatAt) (users : UserSeatAt) (before after : Now) → IsUnasked users (wants s before.attending.user u) after.users → after.seen ≡ before.seen → after.attending ≡ before.attending → IsStoppedAt s k k c c u seat users before after
-unheard_of s k c u seat users before after x seen attending = record { link = refl; clock = refl; stopped = inr (record { unasked = x; seen = seen; attending = attending }) }
+pub unheard_of : (s : Contents) (k : LinkState) (c : List Moment) (u : Input) (seat : SeatAt) (users : UserSeatAt) (before after : Now) → IsUnasked users (wants s before.attending.user u) after.users → after.seen ≡ before.seen → after.stamps ≡ before.stamps → after.attending ≡ before.attending → IsStoppedAt s k k c c u seat users before after
+unheard_of s k c u seat users before after x seen stamps attending = record { link = refl; clock = refl; stopped = inr (record { unasked = x; seen = seen; stamps = stamps; attending = attending }) }
 
 -- what a call does to a session stands for the language and the seat that the session began with
 module _ {Shelf : Type 0} (value : Shelf → Contents) (first : SessionUser) (told clock_told : Type 0) (j j2 : LinkState) (d d2 : List Moment) (now after : Now) (due : Bool) (r r2 : Reader) (how : Result Progress Stopped) (old new : Shelf) (was is_now : SeatAt) (users_was users_now : UserSeatAt) where

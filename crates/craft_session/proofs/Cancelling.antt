@@ -2,6 +2,7 @@
 use Rattle.std.proofs.Common.{◌≡◌, ◌≤◌, ◌<◌, ◌++◌, ℕ, zero, suc, Bool, true, false, List, [], append-nil, inl, inr, refl, sym, ◌∙◌, ap, subst, arith}
 use Rattle.std.proofs.Math.Nat.{eq-or-lt_of_le}
 use base.Stored.{Gv}
+use Rattle.turnstile.specs.Dating.{Stamp as DateStamp}
 use Rattle.dxc_causes.specs.Causes.{Counted}
 use Rattle.dxc_outside.specs.declared.clock.Moment.{Moment}
 use Rattle.dxc_outside.specs.declared.gate.GatePlace.{GatePlace}
@@ -24,11 +25,12 @@ use Rattle.craft_session.specs.Cancelling.{Heeded, Heeds, IsUnended, looking}
 use Rattle.craft_session.specs.Gated.{AreEntered, at_users, users_kept}
 use Rattle.craft_session.specs.Happenings.{Request}
 use Rattle.craft_session.specs.Noted.{IsBeside, stood}
-use Rattle.craft_session.specs.Seats.{IsSameSeat, IsSameUserSeat, SeatAt, UserSeatAt}
-use Rattle.craft_session.specs.Sessions.{Beginning, IsAt, IsEnded, Now, Stands}
+use Rattle.craft_session.specs.Seats.{IsSameSeat, IsSameUserSeat, SeatAt, UserSeatAt, UsersInTurn}
+use Rattle.craft_session.specs.Sessions.{Beginning, IsAt, IsEnded, IsFrom, Now, Stands, now_of}
 use Rattle.craft_session.specs.Stamps.{stamp_at}
 use Rattle.craft_session.specs.Timely.{GoesOn, Telling, WasTimely, reached, starting}
 use Rattle.craft_session.proofs.Consulted.{consulted_back}
+use Rattle.craft_session.proofs.Done.{UsersTurned, done_back, users_turned}
 use Rattle.craft_session.proofs.Gated.{are_entered_on}
 use Rattle.craft_session.proofs.SessionSteps.{served_here}
 use Rattle.craft_session.proofs.Timely.{timely_more, timely_none}
@@ -43,8 +45,8 @@ module _ (patience : Patience) (user : SessionUser) (was : SeatAt) (seat : UserS
     pub heeded_at : (h : List UserEntry) → SawUsers b.users seat.seen h → Heeded (looking patience user (record seat { opening = b.users; place = b.place })) h then_seen cancelled
     heeded_at = subst (λ (w : UsersOpening × ℕ). (h : List UserEntry) → SawUsers w.0 seat.seen h → Heeded (looking patience user (record seat { opening = w.0; place = w.1 })) h then_seen cancelled) (λ i. (at.2 i, at.3 i)) heeded
 
-    module _ (l : Language Request Moment) (told clock_told : Type 0) (k j : LinkState) (c d : List Moment) (now : Now) (seen_is : now.users ≡ seat.seen) (r : Reader) where
-      abbrev pub looked_stands : Stands l told clock_told k j c d b now false More r [] → Stands l told clock_told k j c d b (record now { users = then_seen }) false More r []
+    module _ (l : Language Request Moment) (told clock_told : Type 0) (k j : LinkState) (c d : List Moment) (now : Now) (seen_is : now.users ≡ seat.seen) (r : Reader) (stamps : List DateStamp) (turned : UsersTurned b.place now (record now { users = then_seen; users_stamps = stamps })) where
+      abbrev pub looked_stands : Stands l told clock_told k j c d b now false More r [] → Stands l told clock_told k j c d b (record now { users = then_seen; users_stamps = stamps }) false More r []
       looked_stands s = let p = s.past in record {
         items = s.items;
         rest = s.rest;
@@ -59,6 +61,7 @@ module _ (patience : Patience) (user : SessionUser) (was : SeatAt) (seat : UserS
           run = p.run;
           saw = p.saw;
           consulted = consulted_back l b now.users then_seen p.walk.happenings p.walk.attending.user p.consulted (λ h saw. (heeded_at h (subst (λ (v : List Gv). SawUsers b.users v h) seen_is saw)).back);
+          done = done_back l b now p.walk p.done (record now { users = then_seen; users_stamps = stamps }) turned p.consulted.history p.consulted.saw (heeded_at p.consulted.history (subst (λ (v : List Gv). SawUsers b.users v p.consulted.history) seen_is p.consulted.saw)).back refl;
           attending = p.attending;
           looked = p.looked;
           written = p.written;
@@ -141,33 +144,36 @@ module _ (l : Language Request Moment) (t : Telling) {X : Type 0} (asked : X →
   pub record InLoop (seat : SeatAt) (users : UserSeatAt) (attending : Attending) (reader : Reader) : Type 0 where
     pub seat_is : IsSameSeat began seat
     pub users_are : IsSameUserSeat users_began users
-    pub stands : (b : Beginning) → IsAt b began users_began → Saw b.opening began.seen b.before → SawUsers b.users users_began.seen b.users_before → Stands l t.told t.clock_told k j c d b (record { seen = seat.seen; users = users.seen; attending = attending }) false More reader []
+    pub stands : (b : Beginning) → IsAt b began users_began → Saw b.opening began.seen b.before → SawUsers b.users users_began.seen b.users_before → IsFrom b began users_began → Stands l t.told t.clock_told k j c d b (now_of seat users attending) false More reader []
     pub timely : WasTimely l t (stamp_at c k began users_began) (reached j.written seat.seen users.seen)
     pub entered : AreEntered began users_began (asked a z) seat.seen users.seen
 
   pub record Looked (patience : Patience) (cancelled : Bool) (seat : SeatAt) (users : UserSeatAt) (attending : Attending) (reader : Reader) : Type 0 where
     pub here : InLoop seat users attending reader
-    pub ended : cancelled ≡ true → (b : Beginning) (at : IsAt b began users_began) (saw : Saw b.opening began.seen b.before) (users_saw : SawUsers b.users users_began.seen b.users_before) → IsEnded b.place attending.user (here.stands b at saw users_saw).past.consulted.history
-    pub unended : cancelled ≡ false → patience ≡ Limited → (b : Beginning) (at : IsAt b began users_began) (saw : Saw b.opening began.seen b.before) (users_saw : SawUsers b.users users_began.seen b.users_before) → IsUnended b.place attending.user (here.stands b at saw users_saw).past.consulted.history
+    pub ended : cancelled ≡ true → (b : Beginning) (at : IsAt b began users_began) (saw : Saw b.opening began.seen b.before) (users_saw : SawUsers b.users users_began.seen b.users_before) (first : IsFrom b began users_began) → IsEnded b.place attending.user (here.stands b at saw users_saw first).past.consulted.history
+    pub unended : cancelled ≡ false → patience ≡ Limited → (b : Beginning) (at : IsAt b began users_began) (saw : Saw b.opening began.seen b.before) (users_saw : SawUsers b.users users_began.seen b.users_before) (first : IsFrom b began users_began) → IsUnended b.place attending.user (here.stands b at saw users_saw first).past.consulted.history
 
-  module _ (patience : Patience) (cancelled : Bool) (seat : SeatAt) (users then : UserSeatAt) (attending : Attending) (reader : Reader) (i : InLoop seat users attending reader) (same : IsSameUserSeat users then) (heeded : HeededBy patience attending.user users then.seen cancelled) where
+  module _ (patience : Patience) (cancelled : Bool) (seat : SeatAt) (users then : UserSeatAt) (attending : Attending) (reader : Reader) (i : InLoop seat users attending reader) (same : IsSameUserSeat users then) (in_turn : UsersInTurn seat users then) (heeded : HeededBy patience attending.user users then.seen cancelled) where
     abbrev at_here : (b : Beginning) → IsAt b began users_began → IsAt b seat users
     at_here b at = (i.seat_is.0 ∙ at.0, i.seat_is.1 ∙ at.1, i.users_are.0 ∙ at.2, i.users_are.1 ∙ at.3)
 
     abbrev was : Now
-    was = record { seen = seat.seen; users = users.seen; attending = attending }
+    was = now_of seat users attending
+
+    turned_here : (b : Beginning) → IsAt b began users_began → UsersTurned b.place was (now_of seat then attending)
+    turned_here b at = users_turned b seat seat users then (at_here b at) was (now_of seat then attending) refl refl refl refl refl in_turn
 
     looked_here : Looked patience cancelled seat then attending reader
     looked_here = record {
       here = record {
         seat_is = i.seat_is;
         users_are = (same.0 ∙ i.users_are.0, same.1 ∙ i.users_are.1, same.2 ∙ i.users_are.2, same.3 ∙ i.users_are.3);
-        stands = λ b at saw users_saw. looked_stands patience attending.user seat users then.seen cancelled heeded b (at_here b at) l t.told t.clock_told k j c d was refl reader (i.stands b at saw users_saw);
-        timely = λ b at saw users_saw. timely_more l t (starting k c b) k j seat.seen users.seen (i.timely b at saw users_saw) (reached j.written seat.seen then.seen) (timely_none l t (starting k c b) j (reached j.written seat.seen then.seen) refl) (looked_on patience attending.user seat users then.seen cancelled heeded b (at_here b at) t.told j.written seat.seen);
+        stands = λ b at saw users_saw first. looked_stands patience attending.user seat users then.seen cancelled heeded b (at_here b at) l t.told t.clock_told k j c d was refl reader then.stamps (turned_here b at) (i.stands b at saw users_saw first);
+        timely = λ b at saw users_saw first. timely_more l t (starting k c b) k j seat.seen users.seen (i.timely b at saw users_saw first) (reached j.written seat.seen then.seen) (timely_none l t (starting k c b) j (reached j.written seat.seen then.seen) refl) (looked_on patience attending.user seat users then.seen cancelled heeded b (at_here b at) t.told j.written seat.seen);
         entered = are_entered_on asked on began seat users_began users a z z seat.seen then.seen i.entered i.seat_is i.users_are (looked_entered patience attending.user seat users then.seen cancelled heeded (asked z z) (unasked z));
       };
-      ended = λ is b at saw users_saw. ended_stands patience attending.user seat users then.seen cancelled heeded b (at_here b at) l t.told t.clock_told k j c d was refl reader is (i.stands b at saw users_saw);
-      unended = λ is limits b at saw users_saw. unended_stands patience attending.user seat users then.seen cancelled heeded b (at_here b at) l t.told t.clock_told k j c d was refl reader is limits (i.stands b at saw users_saw);
+      ended = λ is b at saw users_saw first. ended_stands patience attending.user seat users then.seen cancelled heeded b (at_here b at) l t.told t.clock_told k j c d was refl reader then.stamps (turned_here b at) is (i.stands b at saw users_saw first);
+      unended = λ is limits b at saw users_saw first. unended_stands patience attending.user seat users then.seen cancelled heeded b (at_here b at) l t.told t.clock_told k j c d was refl reader then.stamps (turned_here b at) is limits (i.stands b at saw users_saw first);
     }
 
     -- what else a desk has stays
@@ -176,7 +182,7 @@ module _ (l : Language Request Moment) (t : Telling) {X : Type 0} (asked : X →
 
 module _ (l : Language Request Moment) (begun : LinkState → Type 0) (told clock_told : Type 0) (k : LinkState) (c : List Moment) (old : SeatAt) (users : UserSeatAt) where
   pub heeds_none : Heeds l begun told clock_told k c old users k
-  heeds_none b at saw users_saw n from below = absurd (omega (arith, from, below))
+  heeds_none b at saw users_saw first n from below = absurd (omega (arith, from, below))
 
   -- it stands so, and goes on
   abbrev pub StandsOn : LinkState → List Moment → Now → Reader → Beginning → Type 0
@@ -184,11 +190,11 @@ module _ (l : Language Request Moment) (begun : LinkState → Type 0) (told cloc
 
   -- a read, and writes after it
   pub heeds_more : (j m : LinkState) (reads : ℕ) (d : List Moment) (now : Now) (r : Reader) → Heeds l begun told clock_told k c old users j → begun j
-      → ((b : Beginning) → IsAt b old users → Saw b.opening old.seen b.before → SawUsers b.users users.seen b.users_before → StandsOn j d now r b)
+      → ((b : Beginning) → IsAt b old users → Saw b.opening old.seen b.before → SawUsers b.users users.seen b.users_before → IsFrom b old users → StandsOn j d now r b)
       → Counted j.reads reads 1 → m.reads ≡ reads → Heeds l begun told clock_told k c old users m
-  heeds_more j m reads d now r so_far begun_j stands one same b at saw users_saw n from below =
+  heeds_more j m reads d now r so_far begun_j stands one same b at saw users_saw first n from below =
       let within : n ≤ j.reads = omega (arith, below, same, one.no_more) in
       elim (eq-or-lt_of_le within) [
-        | inl is ↦ (let s = stands b at saw users_saw in (record { link = j; begun_at = begun_j; number_is = sym is; clock = d; now = now; served = served_here _ _ _ _ _ _ _ _ _ _ s.0 }, s.1))
-        | inr less ↦ so_far b at saw users_saw n from less
+        | inl is ↦ (let s = stands b at saw users_saw first in (record { link = j; begun_at = begun_j; number_is = sym is; clock = d; now = now; served = served_here _ _ _ _ _ _ _ _ _ _ s.0 }, s.1))
+        | inr less ↦ so_far b at saw users_saw first n from less
       ]

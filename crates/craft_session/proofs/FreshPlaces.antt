@@ -24,7 +24,7 @@ pub at_opening : (told : Type 0) {due : Bool} {number : ℕ} (file : List ℕ) (
 at_opening told file s i o is = record { fabric = is.fabric_is; shape = (comes_shape s.shape is.folded.head is.folded.read o.first.fold.table o.first.fold.colours o.first.fold.work is.folded.comes).0 }
 
 abbrev fresh : Ident → ℕ → Token
-fresh id n = record { number = n; free = true; id = id; seen = [] }
+fresh id n = record { number = n; free = true; id = id; seen = []; stamps = []; heard = 0 }
 
 fresh_from : (id : Ident) (n : ℕ) (ps : List Token) → ((k : ℕ) (p : Token) → slice_get ps k ≡ Some p → p ≡ fresh id (n + k)) → AreFresh id n ps
 fresh_from id n [] f = tt
@@ -70,7 +70,7 @@ module _ {D : Type 0} (told : Type 0) (state : D → DiskState) where
   pub seated : (p : Token) (t : TurnstileView (State D)) (i : FabricId) (n : ℕ) → p ≡ fresh t.id n → n < t.passes → (opening_of state t.first).site.fabric ≡ i → IsSeated told state p t i
   seated p t i n is within fabric =
       let o = opening_of state t.first in
-      subst (λ (q : Token). IsSeated told state q t i) (sym is) ((refl, refl, within, none_numbered t.passes), fabric, (began o.due ++ [], saw_nothing o, began_rests o.due n), none_astray told)
+      subst (λ (q : Token). IsSeated told state q t i) (sym is) ((refl, refl, within, none_numbered t.passes, refl), fabric, (began o.due ++ [], saw_nothing o, began_rests o.due n), none_astray told)
 
 -- and so is one at such a state of the users
 users_numbered : (passes : ℕ) → AreUsersNumbered passes []
@@ -80,4 +80,4 @@ users_numbered passes (e ∷ h) is = cc
 pub users_seated : {U : Type 0} (told : Type 0) (state : U → DiskState) (p : Token) (t : TurnstileView (SharedUsers U)) (n : ℕ) → p ≡ fresh t.id n → n < t.passes → UsersStand told state t.first [] → IsUserSeated state p t
 users_seated {U} told state p t n is within b =
     let saw : SawUsers (users_opening state t.first) [] [] = record { marks = []; codes_are = refl; entries_are = refl; history = record { legal = b.legal; paid = b.paid } } in
-    subst (λ (q : Token). IsUserSeated state q t) (sym is) ((refl, refl, within, users_numbered t.passes), ([], saw), nothing_rests n)
+    subst (λ (q : Token). IsUserSeated state q t) (sym is) ((refl, refl, within, users_numbered t.passes, refl), ([], saw), nothing_rests n)

@@ -14,7 +14,7 @@ use Rattle.craft_session.specs.Asks.{Language}
 use Rattle.craft_session.specs.Happenings.{Request}
 use Rattle.craft_session.specs.Idling.{IsHeardBy, IsInTime, IsTooLong, WasAwake, WasIdle, WasSilent}
 use Rattle.craft_session.specs.Seats.{SeatAt, UserSeatAt}
-use Rattle.craft_session.specs.Sessions.{Beginning, IsAt, Now}
+use Rattle.craft_session.specs.Sessions.{Beginning, IsAt, IsFrom, Now}
 use Rattle.craft_session.specs.Waiting.{ForEach, Read}
 use Rattle.craft_session.proofs.SessionSteps.{served_here}
 use Rattle.craft_session.proofs.Waiting.{StandsAt}
@@ -54,13 +54,13 @@ module _ (limited : Type 0) (limits : IdleLimits) (l : Language Request Moment) 
   }
 
   module _ (j m : LinkState) (reads : ℕ) (d : List Moment) (now : Now) (r : Reader) (begun_j : begun j) (stands : StandsAt limited l begun told clock_told k c old users j d now r) (one : Counted j.reads reads 1) (same : m.reads ≡ reads) where
-    abbrev read_here : (b : Beginning) → IsAt b old users → Saw b.opening old.seen b.before → SawUsers b.users users.seen b.users_before → Read l begun told clock_told k c old users b j.reads
-    read_here b at saw users_saw = record { link = j; begun_at = begun_j; number_is = refl; clock = d; now = now; served = served_here _ _ _ _ _ _ _ _ _ _ (stands b at saw users_saw) }
+    abbrev read_here : (b : Beginning) → IsAt b old users → Saw b.opening old.seen b.before → SawUsers b.users users.seen b.users_before → IsFrom b old users → Read l begun told clock_told k c old users b j.reads
+    read_here b at saw users_saw first = record { link = j; begun_at = begun_j; number_is = refl; clock = d; now = now; served = served_here _ _ _ _ _ _ _ _ _ _ (stands b at saw users_saw first) }
 
     heard_more : (silent many : ℕ) → silent < many → IsHeardBy l begun told clock_told k c old users j silent → IsHeardBy l begun told clock_told k c old users m many
     heard_more silent many less so_far = let up = one.no_more in elim so_far [
       | inl few ↦ inl (omega (arith, few, up, same, less))
-      | inr heard ↦ inr (λ b at saw users_saw. let h = heard b at saw users_saw in record {
+      | inr heard ↦ inr (λ b at saw users_saw first. let h = heard b at saw users_saw first in record {
         number = h.number;
         since = let since = h.since in omega (arith, since, up, same, less);
         read = h.read;
@@ -72,10 +72,10 @@ module _ (limited : Type 0) (limits : IdleLimits) (l : Language Request Moment) 
     pub awake_behind : (made silent : ℕ) → IsInTime limits now.attending.user silent → Idles j now.attending.user made silent → WasAwake l begun told clock_told k c old users limits m
     awake_behind made silent short i = inr (
       now.attending.user,
-      (λ b at saw users_saw. record {
+      (λ b at saw users_saw first. record {
         number = j.reads;
         since = let up = one.no_more in omega (arith, up, same);
-        read = read_here b at saw users_saw;
+        read = read_here b at saw users_saw first;
         logged_in = refl;
       }),
       (λ minutes is. let in_time = short minutes is in heard_more silent (300 * minutes + 1) (omega (arith, in_time)) i.heard),
@@ -85,10 +85,10 @@ module _ (limited : Type 0) (limits : IdleLimits) (l : Language Request Moment) 
     pub idles_heard : (user : SessionUser) (made silent next : ℕ) → (told → (x : ℕ) × (rest : List Item) × (j.left ≡ byte x ∷ rest)) → next ≡ 0 → (limited → IsInTime limits now.attending.user silent) → Idles j now.attending.user made silent → Idles m user (made + 1) next
     idles_heard user made silent next some is short i = record {
       few = omega (arith, is);
-      heard = inr (λ b at saw users_saw. record {
+      heard = inr (λ b at saw users_saw first. record {
         number = j.reads;
         since = let up = one.no_more in omega (arith, up, same);
-        read = read_here b at saw users_saw;
+        read = read_here b at saw users_saw first;
         something = some;
       });
       nothing = inl is;
@@ -97,15 +97,15 @@ module _ (limited : Type 0) (limits : IdleLimits) (l : Language Request Moment) 
 
     silent_more : (silent : ℕ) → (told → j.left ≡ quiet ∷ m.left) → ((silent ≡ 0) ⊎ ForEach l begun told clock_told k c old users (WasSilent l begun told clock_told k c old users j now.attending.user silent))
         → ForEach l begun told clock_told k c old users (WasSilent l begun told clock_told k c old users m now.attending.user (silent + 1))
-    silent_more silent left (inl none) b at saw users_saw = record {
+    silent_more silent left (inl none) b at saw users_saw first = record {
       number = j.reads;
       since = λ below. let up = one.no_more in let reached = one.reached in omega (arith, up, reached, same, below, none);
-      read = read_here b at saw users_saw;
+      read = read_here b at saw users_saw first;
       logged_in = refl;
       nothing = λ t. left t ∙ ap (λ (n : ℕ). replicate (n + 1) quiet ++ m.left) (sym none);
     }
-    silent_more silent left (inr so_far) b at saw users_saw =
-        let s = so_far b at saw users_saw in
+    silent_more silent left (inr so_far) b at saw users_saw first =
+        let s = so_far b at saw users_saw first in
         record {
           number = s.number;
           since = λ below. let up = one.no_more in let reached = one.reached in let next : reads ≡ j.reads + 1 = omega (arith, up, reached, same, below) in let since = s.since (omega (arith, below, same, next)) in omega (arith, since, next, same);

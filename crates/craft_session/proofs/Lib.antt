@@ -11,11 +11,13 @@ pub mod Gating
 pub mod Gated
 pub mod Acted
 pub mod Walking
+pub mod Keeping
 pub mod Seating
 pub mod Reading
 pub mod Reporting
 pub mod Ends
 pub mod Consulted
+pub mod Done
 pub mod Timely
 pub mod SessionSteps
 pub mod Prompt

@@ -34,13 +34,14 @@ use Rattle.craft_session.specs.declared.ask.Ask.TheVariants.{Refused, LogsIn, Lo
 use Rattle.craft_session.specs.declared.end.SessionEnd.{SessionEnd}
 use Rattle.craft_session.specs.declared.end.SessionEnd.TheVariants.{End, ReadFault, WriteFault, Stopped, Spent, Unattended, Idle, Cancelled}
 use Rattle.craft_session.specs.Asks.{Language, Reply, user_after}
+use Rattle.craft_session.specs.Doing.{Doing}
 use Rattle.craft_session.specs.Happenings.{Happening, Request, unit, bytes_in, inputs_in, units_in}
 use Rattle.craft_session.specs.PlainUsers.{ConsultsAlone, IsUsersOpeningOf}
 use Rattle.craft_session.specs.Plain.{Excuse, Plays, alone, said_in, standing}
 use Rattle.craft_session.specs.Runs.{Run, Walk, begins, passes, responds, waits, looks}
 use Rattle.craft_session.specs.Scripts.{Answered, AnsweredInPart, AnsweredToStop, AnsweredToUsersStop, IsEnded, IsOpeningOf, IsOwn, IsOwnHistory, IsScript, IsUnsoundBy, WroteAll, command_room, excused_on, opened, room_of}
 use Rattle.craft_session.specs.Seats.{SeatAt, UserSeatAt}
-use Rattle.craft_session.specs.Sessions.{Beginning, Consulted, CutPast, IsServed, IsSession, IsStoppedAtTable, IsStoppedAtUsers, Now, Past, Served, StopPast}
+use Rattle.craft_session.specs.Sessions.{Beginning, Consulted, CutPast, IsServed, IsSession, IsStoppedAtTable, IsStoppedAtUsers, Now, Past, Served, StopPast, done_before, now_of}
 use Rattle.craft_session.specs.Walks.{ChangeReply, IsUnused, Mends, RestartReply, Serves}
 use Rattle.craft_session.proofs.Meanwhiles.{alone_keeps, alone_onward, alone_passed, own_doubts, own_excuse, taken_here}
 use Rattle.craft_session.proofs.Playing.{Played, Something, all_played, each_front, each_last, fits_last, played}
@@ -316,10 +317,10 @@ module _ (disk_told : Type 0) (disk users_disk : DiskState) (own : ℕ) (o : Ope
     some_alone : w.happenings ≢ [] → Something l (LimitBehind o.first) excused alone (opened l o) (standing o.first.fold.table w.history w.attending) w
     some_alone some = elim played_alone [ inl x ↦ absurd (some x.happenings) | inr x ↦ x ]
 
-  module _ (told clock_told : Type 0) (k l : LinkState) (c d : List Moment) (tongue : Language Request Moment) (now : Now) (mine : (h : List Entry) → now.seen ≡ codes h → AllByRecursion (λ e. e.place ≡ own) h) (never : SawNoneAstray disk_told now.seen)
+  module _ (told clock_told : Type 0) (k l : LinkState) (c d : List Moment) (tongue : Language Request Moment) (now : Now) (first : Doing) (mine : (h : List Entry) → now.seen ≡ codes h → AllByRecursion (λ e. e.place ≡ own) h) (never : SawNoneAstray disk_told now.seen)
       (mine_users : (h : List UserEntry) → SawUsers p now.users h → AllByRecursion (λ e. e.place ≡ own) h) where
     abbrev b : Beginning
-    b = record { opening = o; users = p; place = own; before = []; users_before = [] }
+    b = record { opening = o; users = p; place = own; before = []; users_before = []; first = first }
 
     saw_all : (seen : List Gv) (h : List Entry) → Saw o seen h → seen ≡ codes h
     saw_all seen h saw = seen_all o seen h is.ready saw
@@ -469,19 +470,19 @@ users_seen_mine o own places seen zero one numbers h saw = users_mine own zero h
 
 -- the session of a place that had seen nothing
 session_alone : (told clock_told : Type 0) (k l : LinkState) (c d : List Moment) (tongue : Language Request Moment) (old new : SeatAt) (users then_users : UserSeatAt) (end : SessionEnd) → old.opening.due ≡ false → old.seen ≡ [] → users.seen ≡ [] → (x : IsServed tongue told clock_told k l c d old new users then_users end)
-    → IsSession tongue told clock_told k l c d (record { opening = old.opening; users = users.opening; place = old.place; before = []; users_before = [] }) (record { seen = new.seen; users = then_users.seen; attending = x.attending }) end
+    → IsSession tongue told clock_told k l c d (record { opening = old.opening; users = users.opening; place = old.place; before = []; users_before = []; first = done_before old users x.users_saw.marks }) (now_of new then_users x.attending) end
 session_alone told clock_told k l c d tongue old new users then_users end ready none no_users x =
     let nothing : x.before ≡ [] = no_codes x.before (sym (seen_all old.opening old.seen x.before ready x.saw) ∙ none) in
     let no_user : x.users_before ≡ [] = nothing_seen users.opening x.users_before (subst (λ (s : List Gv). SawUsers users.opening s x.users_before) no_users x.users_saw) in
-    subst (λ (h : List Entry × List UserEntry). IsSession tongue told clock_told k l c d (record { opening = old.opening; users = users.opening; place = old.place; before = h.0; users_before = h.1 }) (record { seen = new.seen; users = then_users.seen; attending = x.attending }) end) (λ i. (nothing i, no_user i)) x.session
+    subst (λ (h : List Entry × List UserEntry). IsSession tongue told clock_told k l c d (record { opening = old.opening; users = users.opening; place = old.place; before = h.0; users_before = h.1; first = done_before old users x.users_saw.marks }) (now_of new then_users x.attending) end) (λ i. (nothing i, no_user i)) x.session
 
 -- What the one session of turnstiles with one pass wrote, on the openings of two disks.
 pub script_of : (disk_told told clock_told : Type 0) (disk users_disk : DiskState) (k l : LinkState) (c d : List Moment) (tongue : Language Request Moment) (old new : SeatAt) (users then_users : UserSeatAt) (end : SessionEnd) → IsOpeningOf disk old.opening → IsUsersOpeningOf users_disk users.opening
     → old.seen ≡ [] → users.seen ≡ [] → old.place ≡ 0 → users.place ≡ 0 → new.places ≡ 1 → then_users.places ≡ 1 → AreNumbered new.places new.seen → AreUsersNumbered then_users.places then_users.seen
     → SawNoneAstray disk_told new.seen → IsServed tongue told clock_told k l c d old new users then_users end → IsScript disk_told disk users_disk old.place old.opening users.opening clock_told c d tongue told k l end
 script_of disk_told told clock_told disk users_disk k l c d tongue old new users then_users end is users_is none no_users zero users_zero one users_one numbers users_numbers never x =
-    let now : Now = record { seen = new.seen; users = then_users.seen; attending = x.attending } in
-    scripted disk_told disk users_disk old.place old.opening users.opening is users_is told clock_told k l c d tongue now (seen_mine old.place new.places new.seen zero one numbers) never (users_seen_mine users.opening old.place then_users.places then_users.seen zero users_one users_numbers) end
+    let now = now_of new then_users x.attending in
+    scripted disk_told disk users_disk old.place old.opening users.opening is users_is told clock_told k l c d tongue now (done_before old users x.users_saw.marks) (seen_mine old.place new.places new.seen zero one numbers) never (users_seen_mine users.opening old.place then_users.places then_users.seen zero users_one users_numbers) end
     (session_alone told clock_told k l c d tongue old new users then_users end is.ready none no_users x)
 
 -- Where it ended with its link, all that its seat has seen is the history of what it wrote.
@@ -490,6 +491,6 @@ pub script_seen : (disk_told told clock_told : Type 0) (disk users_disk : DiskSt
     → SawNoneAstray disk_told new.seen → IsServed tongue told clock_told k l c d old new users then_users End → (w : WroteAll disk_told disk users_disk old.place old.opening users.opening clock_told c d tongue told k l) × Saw old.opening new.seen w.answered.walk.history
 unfolding wrote_all session_alone answered
 script_seen disk_told told clock_told disk users_disk k l c d tongue old new users then_users is users_is none no_users zero one users_one numbers users_numbers never x =
-    let now : Now = record { seen = new.seen; users = then_users.seen; attending = x.attending } in
+    let now = now_of new then_users x.attending in
     let session = session_alone told clock_told k l c d tongue old new users then_users End is.ready none no_users x in
-    (wrote_all disk_told disk users_disk old.place old.opening users.opening is users_is told clock_told k l c d tongue now (seen_mine old.place new.places new.seen zero one numbers) never (users_seen_mine users.opening old.place then_users.places then_users.seen zero users_one users_numbers) session, session.past.saw)
+    (wrote_all disk_told disk users_disk old.place old.opening users.opening is users_is told clock_told k l c d tongue now (done_before old users x.users_saw.marks) (seen_mine old.place new.places new.seen zero one numbers) never (users_seen_mine users.opening old.place then_users.places then_users.seen zero users_one users_numbers) session, session.past.saw)

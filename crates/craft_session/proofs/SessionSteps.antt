@@ -3,6 +3,7 @@ use Rattle.std.specs.Prelude.{is_some, min}
 use Rattle.std.proofs.Common.{◌≡◌, ℕ, ◌+◌, ◌≤◌, Bool, true, false, length, List, [], ◌∷◌, ◌++◌, Option, Some, None, Result, Ok, Err, take, drop, inl, inr, refl, sym, ◌∙◌, ap, ap₂, subst, arith, append_assoc, take-append-drop}
 use Rattle.std.proofs.lemmas.List.{append-nil, map-append, drop-drop}
 use base.Stored.{Gv}
+use Rattle.turnstile.specs.Dating.{Stamp as DateStamp}
 use Rattle.dxc_causes.specs.Causes.{Counted}
 use Rattle.dxc_outside.specs.declared.link.Got.{Got}
 use Rattle.dxc_outside.specs.declared.link.Got.TheVariants.{Bytes, Quiet}
@@ -41,18 +42,19 @@ use Rattle.craft_session.specs.Acting.{Acts, Stops}
 use Rattle.craft_session.specs.Asks.{Reply, Language, user_after}
 use Rattle.craft_session.specs.Consulting.{consults_none}
 use Rattle.craft_session.specs.Happenings.{Request, unit, nothing_read, bytes_read, quiet_read, unit_ended}
-use Rattle.craft_session.specs.Hearing.{to_do}
+use Rattle.craft_session.specs.Hearing.{HeardBehind, to_do}
 use Rattle.craft_session.specs.Moments.{Gives, gave_none, gave_next}
 use Rattle.craft_session.specs.Notices.{AreReported, Notice, found_notices, notices}
 use Rattle.craft_session.specs.Progresses.{progress_of}
 use Rattle.craft_session.specs.Runs.{Run, Walk, begins, waits, looks, beginning, with_look, with_quiet, with_response}
-use Rattle.craft_session.specs.Sessions.{AreTold, Beginning, Breaks, Consulted, CutPast, Goes, Halts, IsAt, IsSaid, Now, Past, Served, Stands, StopPast, Writes}
+use Rattle.craft_session.specs.Sessions.{AreTold, Beginning, Breaks, Consulted, CutPast, Goes, Halts, HasDone, IsAt, IsDoneBy, IsSaid, Now, Past, Served, Stands, StopPast, Writes}
 use Rattle.craft_session.specs.Seats.{SeatAt, UserSeatAt}
 use Rattle.craft_session.specs.Stamps.{AreStamped, Stamp, stamp_at}
 use Rattle.craft_session.specs.Timely.{IsTimely, reached, starting, telling}
 use Rattle.craft_session.specs.Walks.{begun_by}
 use Rattle.craft_session.proofs.Changing.{others_unused}
 use Rattle.craft_session.proofs.Consulted.{Learns, consulted_back, consulted_on, consulted_quiet}
+use Rattle.craft_session.proofs.Done.{TableTurned, UnitTurned, UsersTurned, done_back, done_cut, done_look, done_none, done_quiet, done_there, done_unit}
 use Rattle.craft_session.proofs.Reporting.{found_is}
 use Rattle.craft_session.proofs.Timely.{in_message, sent_to}
 use Rattle.craft_session.proofs.Walking.{cursor_within, due_some, snoc_some, passes_all, run_answered, with_history}
@@ -71,12 +73,12 @@ gives_more c d _ ms _ first (gave_none _) = subst (λ (x : List Moment). Gives c
 gives_more c d _ ms _ first (gave_next _ e ns next) = subst (λ (x : List Moment). Gives c (later_moments e) x) (append_assoc ms ns (moment_now e ∷ [])) (gave_next c e (ms ++ ns) (gives_more c d e ms ns first next))
 
 module _ (l : Language Request Moment) (clock_told : Type 0) (c : List Moment) (b : Beginning) where
-  past_none : (now : Now) → Saw b.opening now.seen b.before → SawUsers b.users now.users b.users_before → now.attending ≡ begun_by l.first → Past l clock_told c c b now false [] [] []
-  past_none now saw users none = record { walk = beginning l b.before; happened = nothing_read; gave = λ _. gave_none c; run = begins; saw = saw; consulted = record { history = b.users_before; heard = consults_none; saw = users }; attending = none; looked = refl; written = refl }
+  past_none : (now : Now) → Saw b.opening now.seen b.before → SawUsers b.users now.users b.users_before → IsDoneBy now b.first → now.attending ≡ begun_by l.first → Past l clock_told c c b now false [] [] []
+  past_none now saw users done none = record { walk = beginning l b.before; happened = nothing_read; gave = λ _. gave_none c; run = begins; saw = saw; consulted = record { history = b.users_before; heard = consults_none; saw = users }; done = done_none l b now done; attending = none; looked = refl; written = refl }
 
   module _ (d : List Moment) (now : Now) (items : List Item) (rest out : List ℕ) where
     past_bytes : (due : Bool) → Past l clock_told c d b now due items rest out → (bs : List ℕ) → Past l clock_told c d b now due (items ++ bytes bs) (rest ++ bs) out
-    past_bytes due p bs = record { walk = p.walk; happened = bytes_read items p.walk.happenings rest bs p.happened; gave = p.gave; run = p.run; saw = p.saw; consulted = p.consulted; attending = p.attending; looked = p.looked; written = p.written }
+    past_bytes due p bs = record { walk = p.walk; happened = bytes_read items p.walk.happenings rest bs p.happened; gave = p.gave; run = p.run; saw = p.saw; consulted = p.consulted; done = p.done; attending = p.attending; looked = p.looked; written = p.written }
 
     module _ (p : Past l clock_told c d b now false items rest out) where
       past_quiet : IsRest rest → Past l clock_told c d b now (is_some now.attending.watch) (items ++ quiet_item ∷ []) rest out
@@ -87,6 +89,7 @@ module _ (l : Language Request Moment) (clock_told : Type 0) (c : List Moment) (
         run = waits p.walk p.looked p.run;
         saw = p.saw;
         consulted = consulted_quiet l b now.users now.users p.walk.happenings p.walk.attending.user p.consulted;
+        done = done_quiet l b now p.walk p.done p.looked;
         attending = p.attending;
         looked = ap (λ (s : Attending). is_some s.watch) (sym p.attending);
         written = p.written ∙ sym (append-nil (p.walk.earlier ++ p.walk.latest));
@@ -100,25 +103,32 @@ module _ (l : Language Request Moment) (clock_told : Type 0) (c : List Moment) (
       consults_on u then_seen hears = consulted_on l b now.users then_seen p.walk.happenings p.walk.attending.user p.consulted u
           (subst (λ (s : Attending). Learns l b now.users s.user u then_seen) p.attending hears)
 
-      past_stopped : (u : Request) → IsUnit rest u.input → (after : Now) → Hearing u after.users → ((h : List Entry) → Saw b.opening now.seen h → Stops b.opening b.place h now.attending (l.asks now.attending.user u) after.attending after.seen) → StopPast l clock_told c d b after items out
-      past_stopped u is after hears stops = record {
-        walk = p.walk;
-        last = u;
-        happened = unit_ended items p.walk.happenings rest u p.happened is;
-        gave = p.gave;
-        run = p.run;
-        looked = p.looked;
-        history = p.saw.history;
-        stopped = inl (record {
-          consulted = consults_on u after.users hears;
-          stops = subst (λ (s : Attending). Stops b.opening b.place p.walk.history s (l.asks s.user u) after.attending after.seen) p.attending (stops p.walk.history p.saw);
-        });
-        written = p.written;
-      }
+      -- what it heard behind the users' history
+      heard_behind : (u : Request) (then_seen : List Gv) → Hearing u then_seen → HeardBehind b.users b.place p.consulted.history (l.wants p.walk.attending.user u) (l.heard u) then_seen
+      heard_behind u then_seen hears = (subst (λ (s : Attending). Learns l b now.users s.user u then_seen) p.attending hears).1 p.consulted.history p.consulted.saw
 
-      past_unheard : (u : Request) → IsUnit rest u.input → (after : Now) (op : UserOp) → l.wants now.attending.user u ≡ to_do op → IsChanging op → ((h : List UserEntry) → SawUsers b.users now.users h → TurnedBack b.users b.place h after.users)
+      past_stopped : (u : Request) → IsUnit rest u.input → (after : Now) → UnitTurned b.place now after → Hearing u after.users → ((h : List Entry) → Saw b.opening now.seen h → Stops b.opening b.place h now.attending (l.asks now.attending.user u) after.attending after.seen) → StopPast l clock_told c d b after items out
+      past_stopped u is after turned hears stops =
+          let cut = subst (λ (s : Attending). Stops b.opening b.place p.walk.history s (l.asks s.user u) after.attending after.seen) p.attending (stops p.walk.history p.saw) in
+          record {
+            walk = p.walk;
+            last = u;
+            happened = unit_ended items p.walk.happenings rest u p.happened is;
+            gave = p.gave;
+            run = p.run;
+            looked = p.looked;
+            history = p.saw.history;
+            stopped = inl (record {
+              consulted = consults_on u after.users hears;
+              stops = cut;
+              done = done_cut l b now p.walk p.done after turned.0 u p.consulted.history p.consulted.saw (heard_behind u after.users hears) turned.1 p.saw after.attending cut;
+            });
+            written = p.written;
+          }
+
+      past_unheard : (u : Request) → IsUnit rest u.input → (after : Now) → UsersTurned b.place now after → after.stamps ≡ now.stamps → (op : UserOp) → l.wants now.attending.user u ≡ to_do op → IsChanging op → ((h : List UserEntry) → SawUsers b.users now.users h → TurnedBack b.users b.place h after.users)
           → after.seen ≡ now.seen → after.attending ≡ now.attending → StopPast l clock_told c d b after items out
-      past_unheard u is after op wanted changing back seen attending = record {
+      past_unheard u is after turned same op wanted changing back seen attending = record {
         walk = p.walk;
         last = u;
         happened = unit_ended items p.walk.happenings rest u p.happened is;
@@ -128,6 +138,7 @@ module _ (l : Language Request Moment) (clock_told : Type 0) (c : List Moment) (
         history = p.saw.history;
         stopped = inr (record {
           consulted = consulted_back l b now.users after.users p.walk.happenings p.walk.attending.user p.consulted back;
+          done = done_back l b now p.walk p.done after turned p.consulted.history p.consulted.saw (back p.consulted.history p.consulted.saw) same;
           op = op;
           wanted = subst (λ (s : Attending). l.wants s.user u ≡ to_do op) p.attending wanted;
           changing = changing;
@@ -137,7 +148,7 @@ module _ (l : Language Request Moment) (clock_told : Type 0) (c : List Moment) (
         written = p.written;
       }
 
-      module _ (u : Request) (is : IsUnit rest u.input) (e : List Moment) (m : Moment) (m_is : clock_told → m ≡ moment_now d) (e_is : clock_told → e ≡ later_moments d) (r : Reply) (after : Now)
+      module _ (u : Request) (is : IsUnit rest u.input) (e : List Moment) (m : Moment) (m_is : clock_told → m ≡ moment_now d) (e_is : clock_told → e ≡ later_moments d) (r : Reply) (after : Now) (turned : UnitTurned b.place now after)
           (hears : Hearing u after.users) (acts : (h : List Entry) → Saw b.opening now.seen h → Acts b.opening b.place h now.attending (l.asks now.attending.user u) r after.attending after.seen) where
         gave_one : clock_told → Gives c e (p.walk.moments ++ m ∷ [])
         gave_one ct = rw (m_is ct, e_is ct) (gave_next c d p.walk.moments (p.gave ct))
@@ -151,6 +162,9 @@ module _ (l : Language Request Moment) (clock_told : Type 0) (c : List Moment) (
         abbrev walk_on : List Entry → List Entry → Walk Request Moment
         walk_on passed entries = with_response u entries m (l.response m u r) after.attending (with_history (p.walk.history ++ passed) p.walk)
 
+        done_on : HasDone l b after (walk_on did.passed did.entries)
+        done_on = done_unit l b now p.walk p.done after turned.0 u p.consulted.history p.consulted.saw (heard_behind u after.users hears) turned.1 p.saw r m after.attending p.looked did
+
         past_answered : Past l clock_told c e b after (is_some after.attending.watch) items [] (out ++ l.response m u r)
         past_answered = record {
           walk = walk_on did.passed did.entries;
@@ -159,6 +173,7 @@ module _ (l : Language Request Moment) (clock_told : Type 0) (c : List Moment) (
           run = run_answered l b.place b.opening.first.fold.table b.before b.opening p.walk u m r after.attending after.seen refl p.looked did p.run;
           saw = did.saw;
           consulted = consults;
+          done = done_on;
           attending = refl;
           looked = refl;
           written = ap (λ (x : List ℕ). x ++ l.response m u r) p.written;
@@ -178,6 +193,7 @@ module _ (l : Language Request Moment) (clock_told : Type 0) (c : List Moment) (
           run = run_answered l b.place b.opening.first.fold.table b.before b.opening p.walk u m r after.attending after.seen refl p.looked did p.run;
           saw = did.saw;
           consulted = consults;
+          done = done_on;
           part = part;
           missing = missing;
           split = split;
@@ -185,9 +201,9 @@ module _ (l : Language Request Moment) (clock_told : Type 0) (c : List Moment) (
         }
 
     -- a look that was due
-    module _ (p : Past l clock_told c d b now true items rest out) (cursor : ℕ) (watch : now.attending.watch ≡ Some cursor) (looked : Looked) (given : List Change) (seen : List Gv) where
+    module _ (p : Past l clock_told c d b now true items rest out) (cursor : ℕ) (watch : now.attending.watch ≡ Some cursor) (looked : Looked) (given : List Change) (seen : List Gv) (stamps : List DateStamp) where
       abbrev after_look : Now
-      after_look = record { seen = seen; users = now.users; attending = record { user = now.attending.user; watch = Some looked.newest } }
+      after_look = record { seen = seen; users = now.users; attending = record { user = now.attending.user; watch = Some looked.newest }; stamps = stamps; users_stamps = now.users_stamps }
 
       watched : p.walk.attending.watch ≡ Some cursor
       watched = ap (λ (s : Attending). s.watch) (sym p.attending) ∙ watch
@@ -195,13 +211,16 @@ module _ (l : Language Request Moment) (clock_told : Type 0) (c : List Moment) (
       pub cursor_is_within : cursor ≤ length (changes_of p.walk.history)
       cursor_is_within = cursor_within l b.place b.opening.first.fold.table b.before p.walk p.run cursor watched
 
-      module _ (look : LookIs b.opening b.place p.walk.history cursor seen looked given) (ms : List Moment) (said : List ℕ) (reported : AreReported l.report (notices (changes_of (p.walk.history ++ look.0.later)) cursor) ms said) where
+      module _ (turned : TableTurned b.place now after_look) (look : LookIs b.opening b.place p.walk.history cursor seen looked given) (ms : List Moment) (said : List ℕ) (reported : AreReported l.report (notices (changes_of (p.walk.history ++ look.0.later)) cursor) ms said) where
         abbrev looked_on : Walk Request Moment
         looked_on = with_look b.place cursor ms said (with_history (p.walk.history ++ look.0.later) p.walk)
 
         look_run : Run l b.place b.opening.first.fold.table b.before looked_on
         look_run = looks (with_history (p.walk.history ++ look.0.later) p.walk) cursor ms said p.looked watched reported
             (passes_all l b.place b.opening.first.fold.table b.before p.walk look.0.later (others_unused b.place look.0.later look.0.others) p.run)
+
+        look_done : HasDone l b after_look looked_on
+        look_done = done_look l b now p.walk p.done after_look turned refl refl p.saw cursor ms said p.looked watched look.0.later (others_unused b.place look.0.later look.0.others) look.0.saw reported
 
         attends : after_look.attending ≡ looked_on.attending
         attends = ap₂ (λ (s : Attending) (n : ℕ). record { user = s.user; watch = Some n }) p.attending look.2
@@ -214,6 +233,7 @@ module _ (l : Language Request Moment) (clock_told : Type 0) (c : List Moment) (
           run = look_run;
           saw = look.0.saw;
           consulted = p.consulted;
+          done = look_done;
           attending = attends;
           looked = refl;
           written = ap (λ (x : List ℕ). x ++ said) p.written ∙ append_assoc p.walk.earlier p.walk.latest said;
@@ -233,6 +253,7 @@ module _ (l : Language Request Moment) (clock_told : Type 0) (c : List Moment) (
           run = look_run;
           saw = look.0.saw;
           consulted = p.consulted;
+          done = look_done;
           part = p.walk.latest ++ part;
           missing = missing;
           split = ap (λ (x : List ℕ). p.walk.latest ++ x) split ∙ sym (append_assoc p.walk.latest part missing);
@@ -241,11 +262,11 @@ module _ (l : Language Request Moment) (clock_told : Type 0) (c : List Moment) (
 
 module _ (l : Language Request Moment) (told clock_told : Type 0) (k : LinkState) (c : List Moment) (b : Beginning) where
   -- nothing has happened
-  pub stands_none : (now : Now) (r : Reader) → Saw b.opening now.seen b.before → SawUsers b.users now.users b.users_before → now.attending ≡ begun_by l.first → Holds [] (hand r) → Stands l told clock_told k k c c b now false More r []
-  stands_none now r saw users none holds = record { items = []; rest = []; out = []; exchanged = exchanged_none told k; no_fault = refl; made = holds; past = past_none l clock_told c b now saw users none }
+  pub stands_none : (now : Now) (r : Reader) → Saw b.opening now.seen b.before → SawUsers b.users now.users b.users_before → IsDoneBy now b.first → now.attending ≡ begun_by l.first → Holds [] (hand r) → Stands l told clock_told k k c c b now false More r []
+  stands_none now r saw users done none holds = record { items = []; rest = []; out = []; exchanged = exchanged_none told k; no_fault = refl; made = holds; past = past_none l clock_told c b now saw users done none }
 
   module _ (j : LinkState) (d : List Moment) (now : Now) (r : Reader) where
-    module _ (kind : UnitKind) (ahead : List ℕ) (s : Stands l told clock_told k j c d b now false kind r ahead) (u : Request) (j2 : LinkState) (d2 : List Moment) (is : IsUnit s.rest u.input) (reply : Reply) (after : Now)
+    module _ (kind : UnitKind) (ahead : List ℕ) (s : Stands l told clock_told k j c d b now false kind r ahead) (u : Request) (j2 : LinkState) (d2 : List Moment) (is : IsUnit s.rest u.input) (reply : Reply) (after : Now) (turned : UnitTurned b.place now after)
         (hears : Learns l b now.users now.attending.user u after.users) (acts : (h : List Entry) → Saw b.opening now.seen h → Acts b.opening b.place h now.attending (l.asks now.attending.user u) reply after.attending after.seen) where
       -- a unit was answered
       stands_answered : hand r ≡ [] → IsSaid l told clock_told j j2 d d2 Whole u reply → Stands l told clock_told k j2 c d2 b after (is_some after.attending.watch) More r ahead
@@ -259,7 +280,7 @@ module _ (l : Language Request Moment) (told clock_told : Type 0) (k : LinkState
             exchanged = exchanged_wrote told k j j2 (s.items ++ bytes ahead) s.out (l.response said.moment u reply) s.exchanged wrote;
             no_fault = said.wrote.no_fault refl ∙ s.no_fault;
             made = subst (λ (h : List ℕ). Holds [] h) (sym none) holds_none;
-            past = past_answered l clock_told c b d now s.items s.rest s.out s.past u is d2 said.moment said.now said.later reply after hears acts;
+            past = past_answered l clock_told c b d now s.items s.rest s.out s.past u is d2 said.moment said.now said.later reply after turned hears acts;
           }
 
       -- its answer was cut
@@ -270,15 +291,15 @@ module _ (l : Language Request Moment) (told clock_told : Type 0) (k : LinkState
         out = s.out ++ said.wrote.part;
         exchanged = exchanged_wrote told k j j2 (s.items ++ bytes ahead) s.out said.wrote.part s.exchanged said.wrote.wrote;
         rose = omega (arith, s.exchanged.write_later, said.wrote.cause.cause refl);
-        past = past_cut l clock_told c b d now s.items s.rest s.out s.past u is d2 said.moment said.now said.later reply after hears acts said.wrote.part said.wrote.rest said.wrote.split;
+        past = past_cut l clock_told c b d now s.items s.rest s.out s.past u is d2 said.moment said.now said.later reply after turned hears acts said.wrote.part said.wrote.rest said.wrote.split;
       }
 
       -- each byte of the answer was written in its time
-      pub answered_in_time : (stamped : Stamp → Type 0) (seat : SeatAt) (users : UserSeatAt) (sent : Sent) → IsSaid l told clock_told j j2 d d2 sent u reply → IsAt b seat users → seat.seen ≡ after.seen → users.seen ≡ after.users
+      pub answered_in_time : (stamped : Stamp → Type 0) (seat : SeatAt) (users : UserSeatAt) (sent : Sent) → IsSaid l told clock_told j j2 d d2 sent u reply → IsAt b seat users → seat.seen ≡ after.seen → users.seen ≡ after.users → seat.stamps ≡ after.stamps → users.stamps ≡ after.users_stamps
           → stamped (stamp_at d j seat users) → IsTimely l (telling told clock_told stamped) (starting k c b) j (reached j2.written seat.seen users.seen)
       unfolding past_answered
-      answered_in_time stamped seat users sent said at seen users_seen was t n from below =
-          let p = past_answered l clock_told c b d now s.items s.rest s.out s.past u is d2 said.moment said.now said.later reply after hears acts in (
+      answered_in_time stamped seat users sent said at seen users_seen stamps users_stamps was t n from below =
+          let p = past_answered l clock_told c b d now s.items s.rest s.out s.past u is d2 said.moment said.now said.later reply after turned hears acts in (
             stamp_at d j seat users,
             was,
             record {
@@ -293,6 +314,7 @@ module _ (l : Language Request Moment) (told clock_told : Type 0) (k : LinkState
               at = at;
               saw = subst (λ (x : List Gv). Saw b.opening x p.walk.history) (sym seen) p.saw;
               consulted = subst (λ (x : List Gv). Consulted l b x p.walk.happenings p.walk.attending.user) (sym users_seen) p.consulted;
+              done = done_there l b seat users after p.walk stamps users_stamps users_seen p.done;
               message = l.response said.moment u reply;
               says = inl (record { before = s.past.walk.moments; moment = said.moment; unit = u; reply = reply; all = refl; gave = λ ct. (s.past.gave ct, said.now ct); is = refl });
               written = sym p.written;
@@ -307,25 +329,25 @@ module _ (l : Language Request Moment) (told clock_told : Type 0) (k : LinkState
 
     -- a unit that ended, whole or too long
     module _ (kind : UnitKind) (ahead : List ℕ) (s : Stands l told clock_told k j c d b now false kind r ahead) (u : Request) (ended : IsUnit s.rest u.input × (hand r ≡ [])) where
-      pub goes_on : (j2 : LinkState) (d2 : List Moment) (reply : Reply) (after : Now) → IsSaid l told clock_told j j2 d d2 Whole u reply
+      pub goes_on : (j2 : LinkState) (d2 : List Moment) (reply : Reply) (after : Now) → UnitTurned b.place now after → IsSaid l told clock_told j j2 d d2 Whole u reply
           → Learns l b now.users now.attending.user u after.users → ((h : List Entry) → Saw b.opening now.seen h → Acts b.opening b.place h now.attending (l.asks now.attending.user u) reply after.attending after.seen) → Stands l told clock_told k j2 c d2 b after (is_some after.attending.watch) More r ahead
-      goes_on j2 d2 reply after said hears acts = stands_answered kind ahead s u j2 d2 ended.0 reply after hears acts ended.1 said
+      goes_on j2 d2 reply after turned said hears acts = stands_answered kind ahead s u j2 d2 ended.0 reply after turned hears acts ended.1 said
 
-      pub goes_cut : (j2 : LinkState) (d2 : List Moment) (reply : Reply) (after : Now) → IsSaid l told clock_told j j2 d d2 Sent_cut u reply
+      pub goes_cut : (j2 : LinkState) (d2 : List Moment) (reply : Reply) (after : Now) → UnitTurned b.place now after → IsSaid l told clock_told j j2 d d2 Sent_cut u reply
           → Learns l b now.users now.attending.user u after.users → ((h : List Entry) → Saw b.opening now.seen h → Acts b.opening b.place h now.attending (l.asks now.attending.user u) reply after.attending after.seen) → Breaks l told clock_told k j2 c d2 b after
-      goes_cut j2 d2 reply after said hears acts = breaks_answered kind ahead s u j2 d2 ended.0 reply after hears acts said
+      goes_cut j2 d2 reply after turned said hears acts = breaks_answered kind ahead s u j2 d2 ended.0 reply after turned hears acts said
 
       -- a stop came
       halts_by : (j2 : LinkState) (d2 : List Moment) (after : Now) → j2 ≡ j → d2 ≡ d → StopPast l clock_told c d b after s.items s.out → Halts l told clock_told k j2 c d2 b after
       halts_by j2 d2 after link clock past = rw (link, clock) (record { items = s.items; ahead = ahead; out = s.out; exchanged = s.exchanged; no_fault = s.no_fault; past = past })
 
-      pub goes_stopped : (j2 : LinkState) (d2 : List Moment) (after : Now) → j2 ≡ j → d2 ≡ d → Learns l b now.users now.attending.user u after.users
+      pub goes_stopped : (j2 : LinkState) (d2 : List Moment) (after : Now) → UnitTurned b.place now after → j2 ≡ j → d2 ≡ d → Learns l b now.users now.attending.user u after.users
           → ((h : List Entry) → Saw b.opening now.seen h → Stops b.opening b.place h now.attending (l.asks now.attending.user u) after.attending after.seen) → Halts l told clock_told k j2 c d2 b after
-      goes_stopped j2 d2 after link clock hears stops = halts_by j2 d2 after link clock (past_stopped l clock_told c b d now s.items s.rest s.out s.past u ended.0 after hears stops)
+      goes_stopped j2 d2 after turned link clock hears stops = halts_by j2 d2 after link clock (past_stopped l clock_told c b d now s.items s.rest s.out s.past u ended.0 after turned hears stops)
 
-      pub goes_unheard : (j2 : LinkState) (d2 : List Moment) (after : Now) (op : UserOp) → j2 ≡ j → d2 ≡ d → l.wants now.attending.user u ≡ to_do op → IsChanging op → ((h : List UserEntry) → SawUsers b.users now.users h → TurnedBack b.users b.place h after.users)
+      pub goes_unheard : (j2 : LinkState) (d2 : List Moment) (after : Now) → UsersTurned b.place now after → after.stamps ≡ now.stamps → (op : UserOp) → j2 ≡ j → d2 ≡ d → l.wants now.attending.user u ≡ to_do op → IsChanging op → ((h : List UserEntry) → SawUsers b.users now.users h → TurnedBack b.users b.place h after.users)
           → after.seen ≡ now.seen → after.attending ≡ now.attending → Halts l told clock_told k j2 c d2 b after
-      goes_unheard j2 d2 after op link clock wanted changing back seen attending = halts_by j2 d2 after link clock (past_unheard l clock_told c b d now s.items s.rest s.out s.past u ended.0 after op wanted changing back seen attending)
+      goes_unheard j2 d2 after turned same op link clock wanted changing back seen attending = halts_by j2 d2 after link clock (past_unheard l clock_told c b d now s.items s.rest s.out s.past u ended.0 after turned same op wanted changing back seen attending)
 
     pub whole_ended : (kind : UnitKind) (ahead : List ℕ) (s : Stands l told clock_told k j c d b now false kind r ahead) → kind ≡ WholeUnit → IsUnit s.rest (whole r.kept) × (hand r ≡ [])
     whole_ended kind ahead s is = subst (λ (x : UnitKind). Made s.rest x r) is s.made
@@ -424,7 +446,8 @@ module _ (l : Language Request Moment) (told clock_told : Type 0) (k : LinkState
 
     -- the look was made, and its reports were written, or a part of them
     module _ (ahead : List ℕ) (cursor : ℕ) (watch : now.attending.watch ≡ Some cursor) (s : Stands l told clock_told k j c d b now (is_some now.attending.watch) More r ahead)
-        (looked : Looked) (given : List Change) (seen : List Gv) (look : (h : List Entry) → Saw b.opening now.seen h → LookIs b.opening b.place h cursor seen looked given)
+        (looked : Looked) (given : List Change) (seen : List Gv) (stamps : List DateStamp) (turned : TableTurned b.place now (record { seen = seen; users = now.users; attending = record { user = now.attending.user; watch = Some looked.newest }; stamps = stamps; users_stamps = now.users_stamps }))
+        (look : (h : List Entry) → Saw b.opening now.seen h → LookIs b.opening b.place h cursor seen looked given)
         (j2 : LinkState) (d2 : List Moment) where
       abbrev due_now : Stands l told clock_told k j c d b now true More r ahead
       due_now = subst (λ (w : Option ℕ). Stands l told clock_told k j c d b now (is_some w) More r ahead) watch s
@@ -440,14 +463,14 @@ module _ (l : Language Request Moment) (told clock_told : Type 0) (k : LinkState
 
       notices_are : found_notices looked.since looked.newest given ≡ notices found cursor
       notices_are =
-          let within = cursor_is_within l clock_told c b d now due_now.items due_now.rest due_now.out past_now cursor watch looked given seen in
+          let within = cursor_is_within l clock_told c b d now due_now.items due_now.rest due_now.out past_now cursor watch looked given seen stamps in
           let longer = changes_longer past_now.walk.history look_now.0.later in
           let le : cursor ≤ length found = omega (arith, within, longer) in
           let same : min cursor (length found) ≡ cursor = omega (arith, le) in
           found_is found given cursor looked.newest looked.since (subst (λ (n : ℕ). SinceIs (recent_of found) n looked.since given) same look_now.1) look_now.2
 
       abbrev looked_now : Now
-      looked_now = record { seen = seen; users = now.users; attending = record { user = now.attending.user; watch = Some looked.newest } }
+      looked_now = record { seen = seen; users = now.users; attending = record { user = now.attending.user; watch = Some looked.newest }; stamps = stamps; users_stamps = now.users_stamps }
 
       told_here : (sent : Sent) → AreTold l told clock_told j j2 d d2 sent (found_notices looked.since looked.newest given) → AreTold l told clock_told j j2 d d2 sent (notices found cursor)
       told_here sent x = subst (λ (ns : List Notice). AreTold l told clock_told j j2 d d2 sent ns) notices_are x
@@ -463,7 +486,7 @@ module _ (l : Language Request Moment) (told clock_told : Type 0) (k : LinkState
             exchanged = exchanged_wrote told k j j2 (due_now.items ++ bytes ahead) due_now.out x.bytes due_now.exchanged (subst (λ (y : List ℕ). Wrote told j j2 y) whole x.wrote.wrote);
             no_fault = x.wrote.no_fault refl ∙ due_now.no_fault;
             made = due_now.made;
-            past = past_looked l clock_told c b d now due_now.items due_now.rest due_now.out past_now cursor watch looked given seen look_now x.taken x.bytes
+            past = past_looked l clock_told c b d now due_now.items due_now.rest due_now.out past_now cursor watch looked given seen stamps turned look_now x.taken x.bytes
                 (subst (λ (ms : List Moment). AreReported l.report (notices found cursor) ms x.bytes) all x.reported) d2 x.gave;
           }
 
@@ -474,7 +497,7 @@ module _ (l : Language Request Moment) (told clock_told : Type 0) (k : LinkState
         out = due_now.out ++ x.wrote.part;
         exchanged = exchanged_wrote told k j j2 (due_now.items ++ bytes ahead) due_now.out x.wrote.part due_now.exchanged x.wrote.wrote;
         rose = omega (arith, due_now.exchanged.write_later, x.wrote.cause.cause refl);
-        past = past_look_cut l clock_told c b d now due_now.items due_now.rest due_now.out past_now cursor watch looked given seen look_now (x.taken ++ x.untaken) x.bytes x.reported (rest_of due_now.made) d2 x.taken x.untaken refl x.gave x.wrote.part x.wrote.rest x.wrote.split;
+        past = past_look_cut l clock_told c b d now due_now.items due_now.rest due_now.out past_now cursor watch looked given seen stamps turned look_now (x.taken ++ x.untaken) x.bytes x.reported (rest_of due_now.made) d2 x.taken x.untaken refl x.gave x.wrote.part x.wrote.rest x.wrote.split;
       }
 
       pub goes_told : (sent : Sent) (how : Progress) → how ≡ progress_of sent → AreTold l told clock_told j j2 d d2 sent (found_notices looked.since looked.newest given) → Goes l told clock_told k j2 c d2 b looked_now (Ok how) false r ahead
@@ -482,12 +505,12 @@ module _ (l : Language Request Moment) (told clock_told : Type 0) (k : LinkState
       goes_told Sent_cut how is x = subst (λ (y : Progress). Goes l told clock_told k j2 c d2 b looked_now (Ok y) false r ahead) (sym is) (breaks_told (told_here Sent_cut x))
 
       -- each byte of the reports was written in its time
-      pub looked_in_time : (stamped : Stamp → Type 0) (seat : SeatAt) (users : UserSeatAt) (sent : Sent) → AreTold l told clock_told j j2 d d2 sent (found_notices looked.since looked.newest given) → IsAt b seat users → seat.seen ≡ seen → users.seen ≡ now.users
+      pub looked_in_time : (stamped : Stamp → Type 0) (seat : SeatAt) (users : UserSeatAt) (sent : Sent) → AreTold l told clock_told j j2 d d2 sent (found_notices looked.since looked.newest given) → IsAt b seat users → seat.seen ≡ seen → users.seen ≡ now.users → seat.stamps ≡ stamps → users.stamps ≡ now.users_stamps
           → AreStamped stamped (stamp_at d j seat users) j2 d2 → IsTimely l (telling told clock_told stamped) (starting k c b) j (reached j2.written seat.seen users.seen)
       unfolding past_look_cut
-      looked_in_time stamped seat users sent told_all at seat_seen users_seen was t n from below =
+      looked_in_time stamped seat users sent told_all at seat_seen users_seen stamps_is users_stamps_is was t n from below =
           let x = told_here sent told_all in
-          let p = past_look_cut l clock_told c b d now due_now.items due_now.rest due_now.out past_now cursor watch looked given seen look_now (x.taken ++ x.untaken) x.bytes x.reported (rest_of due_now.made) d2 x.taken x.untaken refl x.gave x.wrote.part x.wrote.rest x.wrote.split in
+          let p = past_look_cut l clock_told c b d now due_now.items due_now.rest due_now.out past_now cursor watch looked given seen stamps turned look_now (x.taken ++ x.untaken) x.bytes x.reported (rest_of due_now.made) d2 x.taken x.untaken refl x.gave x.wrote.part x.wrote.rest x.wrote.split in
           elim was [
             | inl none ↦ absurd (let e = ap (λ (y : LinkState). length y.written) none.0 in omega (arith, e, from, below))
             | inr there ↦ (
@@ -505,6 +528,7 @@ module _ (l : Language Request Moment) (told clock_told : Type 0) (k : LinkState
                 at = at;
                 saw = subst (λ (y : List Gv). Saw b.opening y p.walk.history) (sym seat_seen) p.saw;
                 consulted = subst (λ (y : List Gv). Consulted l b y p.walk.happenings p.walk.attending.user) (sym users_seen) p.consulted;
+                done = done_there l b seat users looked_now p.walk stamps_is users_stamps_is users_seen p.done;
                 message = x.bytes;
                 says = inr (record { notices = notices found cursor; moments = x.taken ++ x.untaken; are = x.reported });
                 written = sym (ap (λ (y : List ℕ). y ++ x.bytes) past_now.written ∙ append_assoc past_now.walk.earlier past_now.walk.latest x.bytes);

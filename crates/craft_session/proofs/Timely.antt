@@ -18,7 +18,7 @@ use Rattle.craft_session.specs.Gated.{AreEntered, Entered, NothingAsked}
 use Rattle.craft_session.specs.Happenings.{Request}
 use Rattle.craft_session.specs.Meanings.{language_for}
 use Rattle.craft_session.specs.Seats.{IsSameSeat, IsSameUserSeat, SeatAt, UserSeatAt}
-use Rattle.craft_session.specs.Sessions.{Beginning, IsAt, Stands, Writes}
+use Rattle.craft_session.specs.Sessions.{Beginning, IsAt, Stands, Writes, now_of}
 use Rattle.craft_session.specs.Stamps.{AreStamped, Stamp, stamp_at}
 use Rattle.craft_session.specs.Timely.{GoesOn, InHand, IsTimely, IsTimelyFrom, IsWrittenBehind, Reached, SeesOn, Start, Telling, reached, starting}
 
@@ -121,6 +121,7 @@ module _ (l : Language Request Moment) (t : Telling) (s : Start) where
     at = x.at;
     saw = x.saw;
     consulted = x.consulted;
+    done = x.done;
     message = x.message;
     says = x.says;
     written = x.written;
@@ -150,7 +151,7 @@ module _ (l : Language Request Moment) (t : Telling) (s : Start) where
 module _ {Shelf : Type 0} (value : Shelf → Contents) (t : Telling) (d : List Moment) (j : LinkState) (e : Reached) (x : InHand) (old new : Shelf) (was is_now : SeatAt) (users_was users_now : UserSeatAt) where
   pub timely_moved : new ≡ old → IsSameSeat was is_now → IsSameUserSeat users_was users_now → IsTimelyFrom (value new) t (stamp_at d j is_now users_now) x e
       → (first : SessionUser) (k : LinkState) (c : List Moment) (b : Beginning) → IsAt b was users_was
-      → Stands (language_for first (value old)) t.told t.clock_told k j c d b (record { seen = is_now.seen; users = users_now.seen; attending = x.attending }) x.due x.kind x.reader x.ahead → IsTimely (language_for first (value old)) t (starting k c b) j e
+      → Stands (language_for first (value old)) t.told t.clock_told k j c d b (now_of is_now users_now x.attending) x.due x.kind x.reader x.ahead → IsTimely (language_for first (value old)) t (starting k c b) j e
   timely_moved shelf seat users timely first k c b at stands =
       let there = subst (λ (s : Shelf). IsTimelyFrom (value s) t (stamp_at d j is_now users_now) x e) shelf timely in
       there first k c b (seat.0 ∙ at.0, seat.1 ∙ at.1, users.0 ∙ at.2, users.1 ∙ at.3) stands

@@ -34,7 +34,7 @@ module _ (limited : Type 0) (l : Language Request Moment) (begun : LinkState →
   pub waits_none : Waits k 0 0
   waits_none = record {
     few = omega arith;
-    alone = λ n low below b at saw users_saw number from less. absurd (omega (arith, low, from, less));
+    alone = λ n low below b at saw users_saw first number from less. absurd (omega (arith, low, from, less));
     let_go = λ limits. inl (omega arith);
   }
 
@@ -46,7 +46,7 @@ module _ (limited : Type 0) (l : Language Request Moment) (begun : LinkState →
   longer : (j : LinkState) (n m : ℕ) → n ≤ m → IsLetGoBy l begun told clock_told k c old users j n → IsLetGoBy l begun told clock_told k c old users j m
   longer j n m le is = elim is [
     | inl few ↦ inl (omega (arith, few, le))
-    | inr some ↦ inr (λ b at saw users_saw. let s = some b at saw users_saw in record { number = s.number; since = let since = s.since in omega (arith, since, le); read = s.read; somebody = s.somebody })
+    | inr some ↦ inr (λ b at saw users_saw first. let s = some b at saw users_saw first in record { number = s.number; since = let since = s.since in omega (arith, since, le); read = s.read; somebody = s.somebody })
   ]
 
   module _ (j m : LinkState) (reads : ℕ) (d : List Moment) (now : Now) (r : Reader) (begun_j : begun j) (stands : StandsAt j d now r) (one : Counted j.reads reads 1) (same : m.reads ≡ reads) where
@@ -55,30 +55,30 @@ module _ (limited : Type 0) (l : Language Request Moment) (begun : LinkState →
         let low = short refl in
         elim so_far [
           | inl few ↦ inl (let up = one.no_more in omega (arith, few, up, same, low, some))
-          | inr attended ↦ inr (λ b at saw users_saw. let s = attended b at saw users_saw in record {
+          | inr attended ↦ inr (λ b at saw users_saw first. let s = attended b at saw users_saw first in record {
             number = s.number;
             since = let since = s.since in let up = one.no_more in omega (arith, since, up, same, low, some);
             read = s.read;
             somebody = s.somebody;
           })
         ]
-    let_go_by (User uid class) is waited read short some so_far = inr (λ b at saw users_saw. record {
+    let_go_by (User uid class) is waited read short some so_far = inr (λ b at saw users_saw first. record {
       number = j.reads;
       since = let up = one.no_more in omega (arith, up, same);
-      read = record { link = j; begun_at = begun_j; number_is = refl; clock = d; now = now; served = served_here _ _ _ _ _ _ _ _ _ _ (stands b at saw users_saw) };
+      read = record { link = j; begun_at = begun_j; number_is = refl; clock = d; now = now; served = served_here _ _ _ _ _ _ _ _ _ _ (stands b at saw users_saw first) };
       somebody = λ nobody. let no : User uid class ≡ Nobody = sym is ∙ nobody in cc;
     })
 
     alone_by : (user : SessionUser) → now.attending.user ≡ user → (waited read : ℕ) → read ≤ 16 → ((n : ℕ) → 16 * n ≤ waited + 15 → WasAlone l begun told clock_told k c old users j n) → (n : ℕ) → 16 * n ≤ waited_after user waited read + 15 → WasAlone l begun told clock_told k c old users m n
-    alone_by Nobody is waited read most so_far zero low below b at saw users_saw number from less = absurd (omega (arith, from, less))
-    alone_by Nobody is waited read most so_far (suc n) low below b at saw users_saw number from less =
+    alone_by Nobody is waited read most so_far zero low below b at saw users_saw first number from less = absurd (omega (arith, from, less))
+    alone_by Nobody is waited read most so_far (suc n) low below b at saw users_saw first number from less =
         let next : reads ≡ j.reads + 1 = let up = one.no_more in let reached = one.reached in omega (arith, up, reached, same, below) in
         let within : number ≤ j.reads = omega (arith, less, same, next) in
         elim (eq-or-lt_of_le within) [
-          | inl at_j ↦ (record { link = j; begun_at = begun_j; number_is = sym at_j; clock = d; now = now; served = served_here _ _ _ _ _ _ _ _ _ _ (stands b at saw users_saw) }, is)
-          | inr earlier ↦ so_far n (omega (arith, low, most)) (omega (arith, below, same, next)) b at saw users_saw number (omega (arith, from, same, next)) earlier
+          | inl at_j ↦ (record { link = j; begun_at = begun_j; number_is = sym at_j; clock = d; now = now; served = served_here _ _ _ _ _ _ _ _ _ _ (stands b at saw users_saw first) }, is)
+          | inr earlier ↦ so_far n (omega (arith, low, most)) (omega (arith, below, same, next)) b at saw users_saw first number (omega (arith, from, same, next)) earlier
         ]
-    alone_by (User uid class) is waited read most so_far n low below b at saw users_saw number from less = absurd (omega (arith, low, from, less))
+    alone_by (User uid class) is waited read most so_far n low below b at saw users_saw first number from less = absurd (omega (arith, low, from, less))
 
     few_by : (user : SessionUser) (made waited read : ℕ) → read ≤ 16 → waited ≤ 16 * made → waited_after user waited read ≤ 16 * (made + 1)
     few_by Nobody made waited read most few = omega (arith, most, few)

@@ -22,7 +22,7 @@ use Rattle.craft_session.specs.Noted.{HasNoted, stood}
 use Rattle.craft_session.specs.Notices.{Notice}
 use Rattle.craft_session.specs.Responses.{Beside}
 use Rattle.craft_session.specs.Seats.{SeatAt, UserSeatAt}
-use Rattle.craft_session.specs.Sessions.{AreTold, Beginning, Goes, IsAt, IsPrompt, IsReported, IsServed, Now, Stands}
+use Rattle.craft_session.specs.Sessions.{AreTold, Beginning, Goes, IsAt, IsPrompt, IsReported, IsServed, Now, Stands, now_of}
 use Rattle.craft_session.specs.Stamps.{Stamp, stamp_at}
 use Rattle.craft_session.specs.Timely.{InHand, IsTimelyFrom, Reached, Telling, in_hand, reached}
 
@@ -41,7 +41,7 @@ desk_at link coming d = record { link = link; coming = coming; shelf = arc_value
 
 -- what its seats have seen then, and who attends
 abbrev pub now_at : DeskAt → Now
-now_at x = record { seen = x.seat.seen; users = x.users.seen; attending = x.attending }
+now_at x = now_of x.seat x.users x.attending
 
 -- how its session stands where it takes a moment from the clock
 abbrev pub stamp_of : DeskAt → Stamp

@@ -12,6 +12,7 @@ pub mod Commands
 pub mod Acting
 pub mod Progresses
 pub mod Runs
+pub mod Doing
 pub mod Responses
 pub mod Meanings
 pub mod Readings

@@ -45,7 +45,7 @@ use Rattle.craft_session.specs.Hearing.{Wanted, nothing, to_look, to_do}
 use Rattle.craft_session.specs.Lending.{Things}
 use Rattle.craft_session.specs.Meanings.{asks, tag_of, wants}
 use Rattle.craft_session.specs.Seats.{IsSameSeat, IsSameUserSeat, SeatAt, UserSeatAt}
-use Rattle.craft_session.specs.Sessions.{Now}
+use Rattle.craft_session.specs.Sessions.{Now, now_of}
 use Rattle.craft_session.specs.Timely.{Telling, telling}
 use Rattle.craft_session.specs.Walks.{begun_by}
 
@@ -166,7 +166,7 @@ abbrev pub stood : LinkState → List Moment → SeatAt → UserSeatAt → Atten
 stood link coming seat users attending = record { link = link; coming = coming; seat = seat; users = users; attending = attending }
 
 abbrev pub now_in : Stood → Now
-now_in x = record { seen = x.seat.seen; users = x.users.seen; attending = x.attending }
+now_in x = now_of x.seat x.users x.attending
 
 -- a seat has seen nothing more, or others' entries and then a look of its own
 abbrev pub HasLooked : SeatAt → List Gv → Type 0

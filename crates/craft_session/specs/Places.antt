@@ -12,7 +12,7 @@ use Rattle.craft_session.specs.Seats.{PlaceAt}
 
 -- a pass of a turnstile that has seen nothing
 abbrev pub fresh_pass : Ident → ℕ → Token
-fresh_pass id n = record { number = n; free = true; id = id; seen = [] }
+fresh_pass id n = record { number = n; free = true; id = id; seen = []; stamps = []; heard = 0 }
 
 -- such passes from this number on
 abbrev pub AreFresh : Ident → ℕ → List Token → Type 0
@@ -39,7 +39,7 @@ turnstiles_of t u = record { state = t.id; users = u.id; places = t.passes }
 
 -- the place of this number at these turnstiles, which has seen nothing of the histories
 abbrev pub place_at : Contents → Opening → UsersOpening → Turnstiles → ℕ → PlaceAt
-place_at s o p t n = record { shelf = s; seat = record { opening = o; turnstile = t.state; place = n; places = t.places; seen = [] }; users = record { opening = p; turnstile = t.users; place = n; places = t.places; seen = [] } }
+place_at s o p t n = record { shelf = s; seat = record { opening = o; turnstile = t.state; place = n; places = t.places; seen = []; stamps = []; heard = 0 }; users = record { opening = p; turnstile = t.users; place = n; places = t.places; seen = []; stamps = []; heard = 0 } }
 
 -- such places from this number on
 abbrev pub ArePlaces : Contents → Opening → UsersOpening → Turnstiles → ℕ → List PlaceAt → Type 0

@@ -1,6 +1,7 @@
 -- How a session stands over its link, and how it ends.
 use Rattle.std.specs.Prelude.{◌≡◌, ◌≢◌, ◌⊎◌, ◌≤◌, ◌<◌, ℕ, Bool, true, false, List, [], ◌∷◌, ◌++◌, Result, Ok, Err}
 use base.Stored.{Gv}
+use Rattle.turnstile.specs.Dating.{Stamp}
 use Rattle.dxc_causes.specs.Causes.{Rose}
 use Rattle.dxc_outside.specs.declared.send.Sent.{Sent}
 use Rattle.dxc_outside.specs.declared.stopped.Stopped.{Stopped}
@@ -9,21 +10,24 @@ use Rattle.dxc_outside.specs.declared.clock.Moment.{Moment}
 use Rattle.dxc_outside.specs.Items.{Item, bytes}
 use Rattle.dxc_outside.specs.Links.{LinkState, IsSent, Wrote, Exchanged}
 use Rattle.dxc_outside.specs.Moments.{moment_now, later_moments}
+use Rattle.dxc_model.specs.declared.op.Op.{Op}
+use Rattle.dxc_model.specs.declared.entry.Outcome.TheVariants as outcome
 use Rattle.dxc_model.specs.declared.entry.Entry.{Entry}
 use Rattle.tl1_text.specs.declared.reader.UnitKind.{UnitKind}
 use Rattle.tl1_text.specs.declared.reader.UnitKind.TheVariants.{More}
 use Rattle.tl1_text.specs.Units.{IsRest}
 use Rattle.tl1_text.specs.Reading.{Reader, Made}
 use Rattle.user_admin.specs.declared.op.UserEntry.{UserEntry}
+use Rattle.user_admin.specs.declared.op.UserMark.{UserMark}
 use Rattle.tl1_users.specs.declared.op.UserOp.{UserOp}
 use Rattle.user_admin.specs.Histories.{Opening as UsersOpening}
 use Rattle.user_admin.specs.Occupants.{is_cancelled}
-use Rattle.user_admin.specs.Turns.{Saw as SawUsers}
+use Rattle.user_admin.specs.Turns.{Saw as SawUsers, codes}
 use Rattle.user_admin.specs.Verdicts.{IsChanging}
 use Rattle.dxc_model.specs.declared.user.SessionUser.{SessionUser}
 use Rattle.dxc_model.specs.declared.user.SessionUser.TheVariants.{Nobody, User}
 use Rattle.xc_core.specs.States.{Opening}
-use Rattle.xc_core.specs.Seeing.{IsHistory, Saw}
+use Rattle.xc_core.specs.Seeing.{IsHistory, Saw, entry}
 use Rattle.craft_session.specs.declared.attending.Attending.{Attending}
 use Rattle.craft_session.specs.declared.end.SessionEnd.{SessionEnd}
 use Rattle.craft_session.specs.declared.end.SessionEnd.TheVariants.{End, ReadFault, WriteFault, Stopped as Session_stopped, Spent, Unattended, Idle, Cancelled}
@@ -31,6 +35,7 @@ use Rattle.craft_session.specs.declared.end.Progress.{Progress}
 use Rattle.craft_session.specs.declared.end.Progress.TheVariants.{On, Cut}
 use Rattle.craft_session.specs.Asks.{Reply, Language, user_after}
 use Rattle.craft_session.specs.Consulting.{Consults}
+use Rattle.craft_session.specs.Doing.{AreDated, Does, Doing, HearsOn, heard_on, table_on}
 use Rattle.craft_session.specs.Happenings.{Happening, Happens, Request, unit}
 use Rattle.craft_session.specs.Hearing.{to_do}
 use Rattle.craft_session.specs.Notices.{AreReported, Notice}
@@ -39,23 +44,46 @@ use Rattle.craft_session.specs.Moments.{Gives}
 use Rattle.craft_session.specs.Acting.{Stops}
 use Rattle.craft_session.specs.Seats.{SeatAt, UserSeatAt}
 
--- where a session stands: what its seats have seen of the histories, and who attends
+-- where a session stands: what its seats have seen of the histories, with stamps, and who attends
 pub record Now : Type 0 where
   pub seen : List Gv
   pub users : List Gv
   pub attending : Attending
+  pub stamps : List Stamp
+  pub users_stamps : List Stamp
 
--- where a session begins: the openings, the place's number, and the histories that the place has seen
+abbrev pub now_of : SeatAt → UserSeatAt → Attending → Now
+now_of s u a = record { seen = s.seen; users = u.seen; attending = a; stamps = s.stamps; users_stamps = u.stamps }
+
+-- these stamps of both histories were seen, and these codes of the users', where so much was done
+pub record AreSeen (stamps users_stamps : List Stamp) (users : List Gv) (x : Doing) : Type 0 where
+  pub stamps_are : stamps ≡ x.stamps
+  pub users_stamps_are : users_stamps ≡ x.users_stamps
+  pub codes_are : users ≡ codes x.marks
+
+abbrev pub IsDoneBy : Now → Doing → Type 0
+IsDoneBy now x = AreSeen now.stamps now.users_stamps now.users x
+
+-- where a session begins: the openings, the place's number, the histories that the place has seen, and what it has done along them
 pub record Beginning : Type 0 where
   pub opening : Opening
   pub users : UsersOpening
   pub place : ℕ
   pub before : List Entry
   pub users_before : List UserEntry
+  pub first : Doing
 
 -- seats begin there
 abbrev pub IsAt : Beginning → SeatAt → UserSeatAt → Type 0
 IsAt b s u = (s.opening ≡ b.opening) × (s.place ≡ b.place) × (u.opening ≡ b.users) × (u.place ≡ b.place)
+
+-- what the place has done where a session begins of which nothing counts yet
+abbrev pub done_before : SeatAt → UserSeatAt → List UserMark → Doing
+done_before s u marks = record { stamps = s.stamps; marks = marks; users_stamps = u.stamps; used = [] }
+
+-- and have seen so much
+abbrev pub IsFrom : Beginning → SeatAt → UserSeatAt → Type 0
+IsFrom b s u = AreSeen s.stamps u.stamps u.seen b.first
 
 -- somebody is logged in, and by the users' history others ended the sessions of who logged in at the place last
 abbrev pub IsEnded : ℕ → SessionUser → List UserEntry → Type 0
@@ -75,6 +103,21 @@ module _ (l : Language Request Moment) where
     pub history : List UserEntry
     pub heard : Consults l b.place b.users b.users_before hs history user
     pub saw : SawUsers b.users seen history
+
+  -- what the place did along both histories while this happened, as its seats have seen it
+  pub record HasDone (b : Beginning) (now : Now) (w : Walk Request Moment) : Type 0 where
+    pub doing : Doing
+    pub does : Does l b.place b.opening.first.fold.table b.users b.before b.first w doing
+    pub by_now : IsDoneBy now doing
+
+  -- and of a last unit, which a stop cut at the table: it heard what it wants of the users, and this stands in front of the entry of the stop
+  pub record HasDoneCut (b : Beginning) (now : Now) (w : Walk Request Moment) (last : Request) (front : List Entry) (op : Op) : Type 0 where
+    pub doing : Doing
+    pub does : Does l b.place b.opening.first.fold.table b.users b.before b.first w doing
+    pub hears : HearsOn b.users b.place doing (l.wants w.attending.user last) (l.heard last)
+    pub stamps : List Stamp
+    pub dated : AreDated b.place ((heard_on doing hears).users_stamps) (front ++ entry b.place op outcome.Cut ∷ []) stamps
+    pub by_now : IsDoneBy now (table_on (heard_on doing hears) stamps)
 
   -- one response was written, or a part of it
   pub record IsSaid (told clock_told : Type 0) (k j : LinkState) (c d : List Moment) (sent : Sent) (u : Request) (r : Reply) : Type 0 where
@@ -102,6 +145,7 @@ module _ (l : Language Request Moment) where
     pub run : Run l b.place b.opening.first.fold.table b.before walk
     pub saw : Saw b.opening now.seen walk.history
     pub consulted : Consulted b now.users walk.happenings walk.attending.user
+    pub done : HasDone b now walk
     pub attending : now.attending ≡ walk.attending
     pub looked : walk.due ≡ due
     pub written : out ≡ walk.earlier ++ walk.latest
@@ -121,6 +165,7 @@ module _ (l : Language Request Moment) where
     pub run : Run l b.place b.opening.first.fold.table b.before walk
     pub saw : Saw b.opening now.seen walk.history
     pub consulted : Consulted b now.users walk.happenings walk.attending.user
+    pub done : HasDone b now walk
     pub part : List ℕ
     pub missing : List ℕ
     pub split : walk.latest ≡ part ++ missing
@@ -130,10 +175,12 @@ module _ (l : Language Request Moment) where
   pub record IsStoppedAtTable (b : Beginning) (now : Now) (w : Walk Request Moment) (last : Request) : Type 0 where
     pub consulted : Consulted b now.users (w.happenings ++ unit last ∷ []) (user_after w.attending.user (l.asks w.attending.user last))
     pub stops : Stops b.opening b.place w.history w.attending (l.asks w.attending.user last) now.attending now.seen
+    pub done : HasDoneCut b now w last stops.front stops.op
 
   -- or its command at the users, before anything was done: there is no entry of it
   pub record IsStoppedAtUsers (b : Beginning) (now : Now) (w : Walk Request Moment) (last : Request) : Type 0 where
     pub consulted : Consulted b now.users w.happenings w.attending.user
+    pub done : HasDone b now w
     pub op : UserOp
     pub wanted : l.wants w.attending.user last ≡ to_do op
     pub changing : IsChanging op
@@ -224,7 +271,7 @@ module _ (l : Language Request Moment) where
     pub saw : Saw old.opening old.seen before
     pub users_saw : SawUsers users.opening users.seen users_before
     pub attending : Attending
-    pub session : IsSession told clock_told k j c d (record { opening = old.opening; users = users.opening; place = old.place; before = before; users_before = users_before }) (record { seen = new.seen; users = then_users.seen; attending = attending }) end
+    pub session : IsSession told clock_told k j c d (record { opening = old.opening; users = users.opening; place = old.place; before = before; users_before = users_before; first = done_before old users users_saw.marks }) (now_of new then_users attending) end
 
   -- The read of this number began where the session had served all that was read before, and written every byte for it.
   pub record ReadServed (begun : LinkState → Type 0) (told clock_told : Type 0) (k : LinkState) (c : List Moment) (b : Beginning) (number : ℕ) : Type 0 where
@@ -238,7 +285,7 @@ module _ (l : Language Request Moment) where
   -- Each read that was counted began so, whatever histories the seats had seen at the call: nothing that is to be written waits for what comes next.
   abbrev pub IsPrompt : (begun : LinkState → Type 0) (told clock_told : Type 0) (k j : LinkState) (c : List Moment) (old : SeatAt) (users : UserSeatAt) → Type 0
   IsPrompt begun told clock_told k j c old users =
-      (b : Beginning) → IsAt b old users → Saw b.opening old.seen b.before → SawUsers b.users users.seen b.users_before
+      (b : Beginning) → IsAt b old users → Saw b.opening old.seen b.before → SawUsers b.users users.seen b.users_before → IsFrom b old users
       → (number : ℕ) → k.reads ≤ number → number < j.reads → ReadServed begun told clock_told k c b number
 
 -- calls that only wrote

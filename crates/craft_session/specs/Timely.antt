@@ -20,7 +20,7 @@ use Rattle.craft_session.specs.Meanings.{language_for}
 use Rattle.craft_session.specs.Moments.{Gives}
 use Rattle.craft_session.specs.Notices.{AreReported, Notice}
 use Rattle.craft_session.specs.Runs.{Walk, Run}
-use Rattle.craft_session.specs.Sessions.{Beginning, Consulted, IsAt, Stands}
+use Rattle.craft_session.specs.Sessions.{Beginning, Consulted, HasDone, IsAt, IsFrom, Stands, now_of}
 use Rattle.craft_session.specs.Stamps.{Stamp}
 
 -- whether link and clock tell their content, and how a session stood where it took a moment
@@ -105,6 +105,7 @@ module _ (l : Language Request Moment) where
     pub at : IsAt b.beginning s.seat s.users
     pub saw : Saw b.beginning.opening s.seat.seen walk.history
     pub consulted : Consulted l b.beginning s.users.seen walk.happenings walk.attending.user
+    pub done : HasDone l b.beginning (now_of s.seat s.users walk.attending) walk
     pub message : List ℕ
     pub says : IsResponseThen t.clock_told b.coming s.coming walk.moments message ⊎ AreReportsThen message
     pub written : walk.earlier ++ walk.latest ≡ out ++ message
@@ -123,11 +124,11 @@ module _ (l : Language Request Moment) where
   -- what a session wrote from this state on to its end, whatever histories its seats had seen then
   abbrev pub WasTimely : Telling → Stamp → Reached → Type 0
   WasTimely t s e =
-      (b : Beginning) → IsAt b s.seat s.users → Saw b.opening s.seat.seen b.before → SawUsers b.users s.users.seen b.users_before → IsTimely t (starting s.link s.coming b) s.link e
+      (b : Beginning) → IsAt b s.seat s.users → Saw b.opening s.seat.seen b.before → SawUsers b.users s.users.seen b.users_before → IsFrom b s.seat s.users → IsTimely t (starting s.link s.coming b) s.link e
 
 -- what a call wrote to its end that a session made which stood so
 abbrev pub IsTimelyFrom : Contents → Telling → Stamp → InHand → Reached → Type 0
 IsTimelyFrom shelf t s x e =
     (first : SessionUser) (k : LinkState) (c : List Moment) (b : Beginning) → IsAt b s.seat s.users
-    → Stands (language_for first shelf) t.told t.clock_told k s.link c s.coming b (record { seen = s.seat.seen; users = s.users.seen; attending = x.attending }) x.due x.kind x.reader x.ahead
+    → Stands (language_for first shelf) t.told t.clock_told k s.link c s.coming b (now_of s.seat s.users x.attending) x.due x.kind x.reader x.ahead
     → IsTimely (language_for first shelf) t (starting k c b) s.link e

@@ -13,7 +13,7 @@ use Rattle.craft_session.specs.Happenings.{Request}
 use Rattle.craft_session.specs.Lending.{Things}
 use Rattle.craft_session.specs.Meanings.{language_for}
 use Rattle.craft_session.specs.Seats.{SeatAt, UserSeatAt}
-use Rattle.craft_session.specs.Sessions.{Beginning, IsAt, ReadServed}
+use Rattle.craft_session.specs.Sessions.{Beginning, IsAt, IsFrom, ReadServed}
 
 -- how long nobody has been logged in, after one more read, which counts so much and began with this user logged in
 abbrev pub waited_after : SessionUser → (waited read : ℕ) → ℕ
@@ -24,7 +24,7 @@ waited_after (User uid class) waited read = 0
 module _ (l : Language Request Moment) (begun : LinkState → Type 0) (told clock_told : Type 0) (k : LinkState) (c : List Moment) (old : SeatAt) (users : UserSeatAt) where
   -- whatever histories the seats had seen then
   abbrev pub ForEach : (Beginning → Type 0) → Type 0
-  ForEach P = (b : Beginning) → IsAt b old users → Saw b.opening old.seen b.before → SawUsers b.users users.seen b.users_before → P b
+  ForEach P = (b : Beginning) → IsAt b old users → Saw b.opening old.seen b.before → SawUsers b.users users.seen b.users_before → IsFrom b old users → P b
 
   -- the read of this number began where the session had served all that was read before
   abbrev pub Read : Beginning → ℕ → Type 0

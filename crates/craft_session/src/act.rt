@@ -4,7 +4,7 @@ ghost use Rattle.dxc_num.specs.Dimensions.{ports};
 ghost use Rattle.craft_session.specs.Asks.{IsAptActed, IsAptAsk, cursor_from, user_after};
 ghost use Rattle.craft_session.specs.Acting.{ActedFrom, came};
 ghost use Rattle.craft_session.specs.Gated.{AreStateEntered};
-ghost use Rattle.craft_session.specs.Seats.{IsSameSeat};
+ghost use Rattle.craft_session.specs.Seats.{IsSameSeat, SeatGoesOn};
 
 use crate::ask::{Acted, Ask};
 use crate::attending::Attending;
@@ -28,6 +28,7 @@ pub fn act<D: Disk + Drop, G: Gate, R: Wait>(
     requires room { ports seat.old.opening.first.fold.table.shape ≤ vec_capacity rows.old }
     requires apt { IsAptAsk seat.old.opening.first.fold.table.shape ask.now }
     ensures same { IsSameSeat seat.old seat.new }
+    ensures goes { SeatGoesOn seat.old seat.new }
     ensures acts { ActedFrom seat.old attending.old ask.now
         (came result rows.new.items attending.new seat.new.seen) }
     ensures of_shape { IfOk result

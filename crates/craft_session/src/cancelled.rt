@@ -3,7 +3,7 @@ ghost use Rattle.std.specs.Prelude.{◌≡◌, true, List};
 ghost use Rattle.user_admin.specs.declared.op.UserEntry.{UserEntry as Entry};
 ghost use Rattle.user_admin.specs.Turns.{Saw};
 ghost use Rattle.craft_session.specs.Cancelling.{Heeded, looking};
-ghost use Rattle.craft_session.specs.Seats.{IsSameUserSeat};
+ghost use Rattle.craft_session.specs.Seats.{IsSameUserSeat, UserSeatGoesOn, UsersInTurn};
 
 use crate::desk::Desk;
 use crate::patience::Patience;
@@ -22,6 +22,7 @@ pub(crate) fn is_cancelled<D: Disk + Drop, U: Disk + Drop, R: Wait>(
     ensures shelf { desk.new.shelf ≡ desk.old.shelf }
     ensures seat { desk.new.seat ≡ desk.old.seat }
     ensures users { IsSameUserSeat desk.old.users.seat desk.new.users.seat }
+    ensures in_turn { UsersInTurn desk.old.seat desk.old.users.seat desk.new.users.seat }
     ensures attending { desk.new.attending ≡ desk.old.attending }
     ensures reader { desk.new.reader ≡ desk.old.reader }
     ensures limited { result ≡ true → patience ≡ Patience.Limited }
@@ -30,6 +31,7 @@ pub(crate) fn is_cancelled<D: Disk + Drop, U: Disk + Drop, R: Wait>(
         desk.new.users.seat.seen result }
 {
     let user = desk.attending.user;
+    desk.users.seat.hear(&desk.seat);
     looked_after(&mut desk.users.seat, patience, user, rt)
 }
 
@@ -41,6 +43,7 @@ fn looked_after<U: Disk + Drop, R: Wait>(
     rt: &R,
 ) -> bool
     ensures same { IsSameUserSeat seat.old seat.new }
+    ensures goes { UserSeatGoesOn seat.old seat.new }
     ensures limited { result ≡ true → patience ≡ Patience.Limited }
     ensures heeded { (h : List Entry) → Saw seat.old.opening seat.old.seen h
         → Heeded (looking patience user seat.old) h seat.new.seen result }

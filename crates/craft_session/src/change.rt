@@ -6,7 +6,7 @@ ghost use Rattle.roll_engine.specs.Rollings.{rest_of};
 ghost use Rattle.xc_core.specs.Provisioners.{ground_of};
 ghost use Rattle.xc_core.specs.Drives.{CanDrive};
 ghost use Rattle.xc_core.specs.States.{opening_of};
-ghost use Rattle.xc_core.specs.Turns.{HasPass, SawNoneAstray};
+ghost use Rattle.xc_core.specs.Turns.{HasPass, KeepsPass, SawNoneAstray};
 ghost use Rattle.xc_core.specs.Views.{After, AtRest, Denies, HasSeen, OutFor, PlannedFor, Upon};
 ghost use Rattle.craft_session.specs.Askings.{AskedBehind, ChangeAsked, RollAsked};
 ghost use Rattle.craft_session.specs.Commands.{AsksFor, AsksOut, ChangesTo, DriveAsked, ResumesOn, RollsOn};
@@ -77,7 +77,7 @@ fn drive_out<D: Disk + Drop, G: Gate, R: Wait>(
     requires fabric { (opening_of D.state turns.now.first).site.fabric ≡ fabric.now }
     requires taken { Upon D.Disk turns.now pass.old (OutFor D.Disk op.now driver.value) }
     requires unmade { driver.value.rolling.step ≡ 0 }
-    ensures pass { HasPass turns.now pass.new × (pass.new.number ≡ pass.old.number) }
+    ensures pass { KeepsPass turns.now pass.old pass.new }
     ensures changed { After D.Disk turns.now pass.old (ChangesTo op.now pass.new result) }
     ensures astray { SawNoneAstray D.told pass.new.seen }
     ensures stopped { RoseOnlyFor (G.stops gate.old) (G.stops gate.new) (IsErr result) }
@@ -115,7 +115,7 @@ fn carry_out<D: Disk + Drop, G: Gate, R: Wait>(
     requires fabric { (opening_of D.state turns.now.first).site.fabric ≡ fabric.now }
     requires planned { Upon D.Disk turns.now pass.old
         (PlannedFor D.Disk op.now driver.value bytes.now) }
-    ensures pass { HasPass turns.now pass.new × (pass.new.number ≡ pass.old.number) }
+    ensures pass { KeepsPass turns.now pass.old pass.new }
     ensures changed { After D.Disk turns.now pass.old (ChangesTo op.now pass.new result) }
     ensures astray { SawNoneAstray D.told pass.new.seen }
     ensures stopped { RoseOnlyFor (G.stops gate.old) (G.stops gate.new) (IsErr result) }
@@ -150,7 +150,7 @@ fn stand<D: Disk + Drop, R: Wait>(
     requires pass { HasPass turns.now pass.old }
     requires apt { IsApt (opening_of D.state turns.now.first).first.fold.table.shape op.now }
     requires seen { Upon D.Disk turns.now pass.old AtRest }
-    ensures pass { HasPass turns.now pass.new × (pass.new.number ≡ pass.old.number) }
+    ensures pass { KeepsPass turns.now pass.old pass.new }
     ensures denied { After D.Disk turns.now pass.old (Denies D.Disk op.now pass.new result) }
     ensures astray { IfSome result (λ _. SawNoneAstray D.told pass.new.seen) }
 {
@@ -179,7 +179,7 @@ pub fn change_in_line<D: Disk + Drop, G: Gate, R: Wait>(
     requires fabric { (opening_of D.state turns.now.first).site.fabric ≡ fabric.now }
     requires apt { IsApt (opening_of D.state turns.now.first).first.fold.table.shape op.now }
     requires seen { Upon D.Disk turns.now pass.old AtRest }
-    ensures pass { HasPass turns.now pass.new × (pass.new.number ≡ pass.old.number) }
+    ensures pass { KeepsPass turns.now pass.old pass.new }
     ensures changed { After D.Disk turns.now pass.old (ChangesTo op.now pass.new result) }
     ensures astray { SawNoneAstray D.told pass.new.seen }
     ensures stopped { RoseOnlyFor (G.stops gate.old) (G.stops gate.new) (IsErr result) }
@@ -211,7 +211,7 @@ fn change<D: Disk + Drop, G: Gate, R: Wait>(
     requires fabric { (opening_of D.state turns.now.first).site.fabric ≡ fabric.now }
     requires apt { IsApt (opening_of D.state turns.now.first).first.fold.table.shape op.now }
     requires seen { HasSeen D.Disk turns.now pass.old }
-    ensures pass { HasPass turns.now pass.new × (pass.new.number ≡ pass.old.number) }
+    ensures pass { KeepsPass turns.now pass.old pass.new }
     ensures changed { After D.Disk turns.now pass.old (ChangesTo op.now pass.new result) }
     ensures astray { SawNoneAstray D.told pass.new.seen }
     ensures stopped { RoseOnlyFor (G.stops gate.old) (G.stops gate.new) (IsErr result) }
@@ -242,7 +242,7 @@ fn change_again<D: Disk + Drop, G: Gate, R: Wait>(
     requires fabric { (opening_of D.state turns.now.first).site.fabric ≡ fabric.now }
     requires apt { IsApt (opening_of D.state turns.now.first).first.fold.table.shape op.now }
     requires seen { HasSeen D.Disk turns.now pass.old }
-    ensures pass { HasPass turns.now pass.new × (pass.new.number ≡ pass.old.number) }
+    ensures pass { KeepsPass turns.now pass.old pass.new }
     ensures changed { After D.Disk turns.now pass.old (ChangesTo op.now pass.new result) }
     ensures astray { SawNoneAstray D.told pass.new.seen }
     ensures stopped { RoseOnlyFor (G.stops gate.old) (G.stops gate.new) (IsErr result) }

@@ -3,7 +3,7 @@ ghost use Rattle.std.specs.Prelude.{◌≡◌, length, IsErr};
 ghost use Rattle.dxc_causes.specs.Stops.{RoseOnlyFor};
 ghost use Rattle.dxc_model.specs.Steps.{IsDriven};
 ghost use Rattle.xc_core.specs.States.{opening_of};
-ghost use Rattle.xc_core.specs.Turns.{HasPass, SawNoneAstray};
+ghost use Rattle.xc_core.specs.Turns.{HasPass, KeepsPass, SawNoneAstray};
 ghost use Rattle.xc_core.specs.Views.{After, HasSeen, HeldFor, OutToRestart, Upon};
 ghost use Rattle.roll_engine.specs.Rollings.{rest_of};
 ghost use Rattle.craft_session.specs.Askings.{MendAsked, WarmAsked};
@@ -44,7 +44,7 @@ fn resume<D: Disk + Drop, G: Gate, R: Wait>(
     requires pass { HasPass turns.now pass.old }
     requires fabric { (opening_of D.state turns.now.first).site.fabric ≡ fabric.now }
     requires restart { Upon D.Disk turns.now pass.old (OutToRestart D.Disk asked.now driver.value) }
-    ensures pass { HasPass turns.now pass.new × (pass.new.number ≡ pass.old.number) }
+    ensures pass { KeepsPass turns.now pass.old pass.new }
     ensures mended { After D.Disk turns.now pass.old (MendsTo asked.now pass.new result) }
     ensures astray { SawNoneAstray D.told pass.new.seen }
     ensures stopped { RoseOnlyFor (G.stops gate.old) (G.stops gate.new) (IsErr result) }
@@ -82,7 +82,7 @@ fn go_on<D: Disk + Drop, G: Gate, R: Wait>(
     requires fabric { (opening_of D.state turns.now.first).site.fabric ≡ fabric.now }
     requires asked { IsDriven asked.now }
     requires held { Upon D.Disk turns.now pass.old (HeldFor D.Disk asked.now driver.value) }
-    ensures pass { HasPass turns.now pass.new × (pass.new.number ≡ pass.old.number) }
+    ensures pass { KeepsPass turns.now pass.old pass.new }
     ensures mended { After D.Disk turns.now pass.old (MendsTo asked.now pass.new result) }
     ensures astray { SawNoneAstray D.told pass.new.seen }
     ensures stopped { RoseOnlyFor (G.stops gate.old) (G.stops gate.new) (IsErr result) }
@@ -121,7 +121,7 @@ pub fn mend<D: Disk + Drop, G: Gate, R: Wait>(
     requires fabric { (opening_of D.state turns.now.first).site.fabric ≡ fabric.now }
     requires asked { IsDriven asked.now }
     requires seen { HasSeen D.Disk turns.now pass.old }
-    ensures pass { HasPass turns.now pass.new × (pass.new.number ≡ pass.old.number) }
+    ensures pass { KeepsPass turns.now pass.old pass.new }
     ensures mended { After D.Disk turns.now pass.old (MendsTo asked.now pass.new result) }
     ensures astray { SawNoneAstray D.told pass.new.seen }
     ensures stopped { RoseOnlyFor (G.stops gate.old) (G.stops gate.new) (IsErr result) }
@@ -147,7 +147,7 @@ pub fn warm_restart<D: Disk + Drop, G: Gate, R: Wait>(
     requires pass { HasPass turns.now pass.old }
     requires fabric { (opening_of D.state turns.now.first).site.fabric ≡ fabric.now }
     requires seen { HasSeen D.Disk turns.now pass.old }
-    ensures pass { HasPass turns.now pass.new × (pass.new.number ≡ pass.old.number) }
+    ensures pass { KeepsPass turns.now pass.old pass.new }
     ensures restarted { After D.Disk turns.now pass.old (RestartsTo pass.new result) }
     ensures astray { SawNoneAstray D.told pass.new.seen }
     ensures stopped { RoseOnlyFor (G.stops gate.old) (G.stops gate.new) (IsErr result) }

@@ -93,6 +93,7 @@ fn report_since<K: Link, C: Timestamps, D: Disk + Drop, U: Disk + Drop, R: Wait>
     ensures looked { HasLooked desk.old.seat desk.new.seat.seen }
     ensures user { desk.new.attending.user ≡ desk.old.attending.user }
 {
+    desk.seat.hear(&desk.users.seat);
     let looked = desk.seat.look(cursor, &mut desk.changes, rt);
     desk.attending.watch = Some(looked.newest);
     Progress::of(tell(desk, link, clock, looked))

@@ -1,6 +1,7 @@
 ghost use Rattle.std.specs.Prelude.{◌≡◌, ◌≤◌, List, length, vec_capacity, IsErr};
 ghost use Rattle.std.specs.Arc.{arc_value};
 ghost use Rattle.std.specs.List.{AllByRecursion};
+ghost use Rattle.turnstile.specs.Dating.{newest};
 ghost use Rattle.tl1_answer.specs.Texts.{IsChangeOf, IsOfShape};
 ghost use Rattle.dxc_causes.specs.Stops.{RoseOnlyFor};
 ghost use Rattle.dxc_num.specs.Dimensions.{ports};
@@ -12,11 +13,12 @@ ghost use Rattle.xc_core.specs.Turns.{AreNumbered, HasPass, InventoryIs, IsInven
 ghost use Rattle.craft_session.specs.Askings.{ChangeAsked, WarmAsked};
 ghost use Rattle.craft_session.specs.Changing.{WarmRestartIs};
 ghost use Rattle.craft_session.specs.Gated.{AreStateEntered};
-ghost use Rattle.craft_session.specs.Seats.{IsSameSeat, IsSeated, seat_at};
+ghost use Rattle.craft_session.specs.Seats.{IsSameSeat, IsSeated, SeatGoesOn, hearing, seat_at};
 ghost use Rattle.craft_session.specs.Turns.{Changes, Finds, Lists};
 
 use crate::change::{Changed, change_in_line};
 use crate::mend::warm_restart;
+use crate::users::UserSeat;
 use dxc_disk::Disk;
 use dxc_model::{Change, Conn, Op, Selection};
 use dxc_outside::{Gate, Stopped};
@@ -64,6 +66,22 @@ impl<D: Disk + Drop> Seat<D> {
         }
     }
 
+    /// Its next entries have higher dates than all that the place has seen at the users.
+    pub fn hear<U: Disk + Drop>(&mut self, users: &UserSeat<U>)
+        ensures heard { self.new ≡ hearing self.old (newest users.now.stamps) }
+        ensures as_many { (length self.new.stamps ≡ length self.new.seen)
+            × (length users.now.stamps ≡ length users.now.seen) }
+    {
+        self.pass.hear(users.pass());
+    }
+
+    pub(crate) fn pass(&self) -> &Pass
+        ensures stamps { result.now.stamps ≡ self.now.stamps }
+        ensures as_many { length self.now.stamps ≡ length self.now.seen }
+    {
+        &self.pass
+    }
+
     /// What it has seen is a history of the places' entries.
     pub fn seen(&self)
         ensures history { (h : List Entry) × Saw self.now.opening self.now.seen h }
@@ -92,6 +110,7 @@ impl<D: Disk + Drop> Seat<D> {
     pub fn rows<R: Wait>(&mut self, selection: Selection, into: &mut Vec<Conn>, rt: &R)
         requires room { ports self.old.opening.first.fold.table.shape ≤ vec_capacity into.old }
         ensures same { IsSameSeat self.old self.new }
+        ensures goes { SeatGoesOn self.old self.new }
         ensures rows { Lists self.old selection self.new.seen into.new.items }
         ensures of_shape { AllByRecursion (IsOfShape self.old.opening.first.fold.table.shape)
             into.new.items }
@@ -104,6 +123,7 @@ impl<D: Disk + Drop> Seat<D> {
     pub fn look<R: Wait>(&mut self, cursor: u64, into: &mut Vec<Change>, rt: &R) -> Looked
         requires room { kept ≤ vec_capacity into.old }
         ensures same { IsSameSeat self.old self.new }
+        ensures goes { SeatGoesOn self.old self.new }
         ensures look { Finds self.old cursor self.new.seen result into.new.items }
         ensures few { length into.new.items ≤ result.newest }
         ensures of_shape { AllByRecursion (IsChangeOf self.old.opening.first.fold.table.shape)
@@ -116,6 +136,7 @@ impl<D: Disk + Drop> Seat<D> {
     /// Gives the number of the newest change.
     pub fn mark<R: Wait>(&mut self, rt: &R) -> u64
         ensures same { IsSameSeat self.old self.new }
+        ensures goes { SeatGoesOn self.old self.new }
         ensures mark { (h : List Entry) → Saw self.old.opening self.old.seen h
             → MarkIs self.old.opening self.old.place h self.new.seen result }
     {
@@ -125,6 +146,7 @@ impl<D: Disk + Drop> Seat<D> {
     /// Gives which modules are equipped, and which middle is out of service.
     pub fn inventory<R: Wait>(&mut self, rt: &R) -> Inventory
         ensures same { IsSameSeat self.old self.new }
+        ensures goes { SeatGoesOn self.old self.new }
         ensures inventory { (h : List Entry) → Saw self.old.opening self.old.seen h
             → InventoryIs self.old.opening self.old.place h self.new.seen result }
         ensures of_shape { IsInventoryOf self.old.opening.first.fold.table.shape result }
@@ -140,6 +162,7 @@ impl<D: Disk + Drop> Seat<D> {
     /// Makes a restart. It waits in the line of those who change something, and for frames in the way.
     pub fn restart<G: Gate, R: Wait>(&mut self, gate: &mut G, rt: &R) -> Result<Changed, Stopped>
         ensures same { IsSameSeat self.old self.new }
+        ensures goes { SeatGoesOn self.old self.new }
         ensures restarted { (h : List Entry) → Saw self.old.opening self.old.seen h
             → WarmRestartIs self.old.opening self.old.place h self.new.seen result }
         ensures stopped { RoseOnlyFor (G.stops gate.old) (G.stops gate.new) (IsErr result) }
@@ -164,6 +187,7 @@ impl<D: Disk + Drop> Seat<D> {
     ) -> Result<Changed, Stopped>
         requires apt { IsApt self.old.opening.first.fold.table.shape op.now }
         ensures same { IsSameSeat self.old self.new }
+        ensures goes { SeatGoesOn self.old self.new }
         ensures changed { Changes self.old op.now self.new.seen result }
         ensures stopped { RoseOnlyFor (G.stops gate.old) (G.stops gate.new) (IsErr result) }
         ensures asked { ChangeAsked (G.asked gate.old gate.new) result }

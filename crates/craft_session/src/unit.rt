@@ -9,7 +9,7 @@ ghost use Rattle.craft_session.specs.Hearing.{left};
 ghost use Rattle.craft_session.specs.Meanings.{wants};
 ghost use Rattle.craft_session.specs.Desks.{asker, input_of, put_down, ConsultedBy};
 ghost use Rattle.craft_session.specs.Noted.{UsersNoted};
-ghost use Rattle.craft_session.specs.Seats.{IsSameSeat, IsSameUserSeat};
+ghost use Rattle.craft_session.specs.Seats.{IsSameSeat, IsSameUserSeat, TableInTurn, UserSeatGoesOn, UsersInTurn};
 ghost use Rattle.craft_session.specs.Sessions.{Writes};
 ghost use Rattle.craft_session.specs.Stamps.{stamp_at};
 ghost use Rattle.craft_session.specs.Timely.{in_hand, telling};
@@ -132,6 +132,9 @@ fn answer<K: Link, C: Timestamps, G: Gate, N: Notes, D: Disk + Drop, U: Disk + D
     ensures shelf { desk.new.shelf ≡ desk.old.shelf }
     ensures seat { IsSameSeat desk.old.seat desk.new.seat }
     ensures users { IsSameUserSeat desk.old.users.seat desk.new.users.seat }
+    // The place hears of the users before it asks the table, and of the table before it asks the users.
+    ensures users_in_turn { UsersInTurn desk.old.seat desk.old.users.seat desk.new.users.seat }
+    ensures in_turn { TableInTurn desk.new.users.seat desk.old.seat desk.new.seat }
     ensures reader { desk.new.reader ≡ desk.old.reader }
     ensures link { Writes K.told (K.state link.old) (K.state link.new) }
     ensures hung_up { K.hung_up link.new ≡ K.hung_up link.old }
@@ -151,7 +154,9 @@ fn answer<K: Link, C: Timestamps, G: Gate, N: Notes, D: Disk + Drop, U: Disk + D
 {
     let mut tag = None;
     let mut ask = Ask::Completes;
+    desk.users.seat.hear(&desk.seat);
     ask_of(desk, &mut tag, &mut ask, gate, notes, rt, kind)?;
+    desk.seat.hear(&desk.users.seat);
     let acted = act(
         &mut desk.seat,
         &mut desk.attending,
@@ -186,6 +191,7 @@ fn ask_of<G: Gate, N: Notes, D: Disk + Drop, U: Disk + Drop, R: Wait>(
     ensures shelf { desk.new.shelf ≡ desk.old.shelf }
     ensures seat { desk.new.seat ≡ desk.old.seat }
     ensures users { IsSameUserSeat desk.old.users.seat desk.new.users.seat }
+    ensures goes { UserSeatGoesOn desk.old.users.seat desk.new.users.seat }
     ensures attending { desk.new.attending ≡ desk.old.attending }
     ensures reader { desk.new.reader ≡ desk.old.reader }
     ensures consulted { ConsultedBy

@@ -11,7 +11,7 @@ ghost use Rattle.craft_session.specs.Hearing.{AskedAt, left, to_do};
 ghost use Rattle.craft_session.specs.Noted.{UsersNoted};
 ghost use Rattle.craft_session.specs.Meanings.{heard_ask, log_in as logged_in, login_wants, named_by, op_wants, users_ask, users_want};
 ghost use Rattle.craft_session.specs.Readings.{IsAptRead, IsCommand, asked_after, read_as, wanted_by};
-ghost use Rattle.craft_session.specs.Seats.{IsSameUserSeat};
+ghost use Rattle.craft_session.specs.Seats.{IsSameUserSeat, UserSeatGoesOn};
 
 use crate::ask::{Ask, Meaning};
 use crate::noting::{note_user_command, user_change_of};
@@ -44,6 +44,7 @@ pub(crate) fn consult<U: Disk + Drop, G: Gate, N: Notes, R: Wait>(
     requires apt { (d : Dimensions) × IsAptRead d
         (read_as unit.now meaning ask.old users.old.asked.op) }
     ensures same { IsSameUserSeat users.old.seat users.new.seat }
+    ensures goes { UserSeatGoesOn users.old.seat users.new.seat }
     ensures asked { AskedAt users.old.seat
         (wanted_by user.now (read_as unit.now meaning ask.old users.old.asked.op))
         (asked_after user.now (read_as unit.now meaning ask.old users.old.asked.op))
@@ -80,6 +81,7 @@ fn log_in<U: Disk + Drop, R: Wait>(
 )
     requires no_rows { users.old.rows.items ≡ [] }
     ensures same { IsSameUserSeat users.old.seat users.new.seat }
+    ensures goes { UserSeatGoesOn users.old.seat users.new.seat }
     ensures asked { AskedAt users.old.seat (login_wants user.now uid.now pid.now)
         (λ x. logged_in user.now (named_by uid.now x))
         (left users.new.rows.items users.new.seat.seen NothingAsked) (Ok ask.new) }
@@ -137,6 +139,7 @@ fn ask_users<U: Disk + Drop, G: Gate, N: Notes, R: Wait>(
     requires command { IfOk users.old.asked.op IsCommand }
     requires no_rows { users.old.rows.items ≡ [] }
     ensures same { IsSameUserSeat users.old.seat users.new.seat }
+    ensures goes { UserSeatGoesOn users.old.seat users.new.seat }
     ensures asked { AskedAt users.old.seat (users_want users.old.asked.op)
         (λ x. users_ask x users.old.asked.op)
         (left users.new.rows.items users.new.seat.seen (G.asked gate.old gate.new))
@@ -173,6 +176,7 @@ fn on_users<U: Disk + Drop, G: Gate, N: Notes, R: Wait>(
     requires command { IsCommand op }
     requires no_rows { users.old.rows.items ≡ [] }
     ensures same { IsSameUserSeat users.old.seat users.new.seat }
+    ensures goes { UserSeatGoesOn users.old.seat users.new.seat }
     ensures asked { AskedAt users.old.seat (op_wants op) heard_ask
         (left users.new.rows.items users.new.seat.seen (G.asked gate.old gate.new)) result }
     ensures noted { UsersNoted (N.noted notes.old notes.new) user.now tag.now (op_wants op)
@@ -197,6 +201,7 @@ fn on_users<U: Disk + Drop, G: Gate, N: Notes, R: Wait>(
 fn list_users<U: Disk + Drop, R: Wait>(users: &mut UserDesk<U>, which: Option<Uid>, rt: &R) -> Ask
     requires no_rows { users.old.rows.items ≡ [] }
     ensures same { IsSameUserSeat users.old.seat users.new.seat }
+    ensures goes { UserSeatGoesOn users.old.seat users.new.seat }
     ensures asked { AskedAt users.old.seat (to_do (UserOp.Rows which)) heard_ask
         (left users.new.rows.items users.new.seat.seen NothingAsked) (Ok result) }
     ensures apt { (d : Dimensions) → IsAptAsk d result }
@@ -224,6 +229,7 @@ fn change_users<U: Disk + Drop, G: Gate, N: Notes, R: Wait>(
     requires named { NamesUid op }
     requires no_rows { users.old.rows.items ≡ [] }
     ensures same { IsSameUserSeat users.old.seat users.new.seat }
+    ensures goes { UserSeatGoesOn users.old.seat users.new.seat }
     ensures asked { AskedAt users.old.seat (to_do op) heard_ask
         (left users.new.rows.items users.new.seat.seen (G.asked gate.old gate.new)) result }
     ensures noted { UsersNoted (N.noted notes.old notes.new) user.now tag.now (to_do op) result }

@@ -2,6 +2,7 @@ pub mod Resting
 pub mod Timing
 pub mod Serving
 pub mod Placing
+pub mod Ordered
 pub mod Owning
 pub mod Leaving
 pub mod Homes

@@ -3,7 +3,9 @@ use Rattle.std.proofs.Common.{◌≡◌, ◌⊎◌, ◌<◌, ◌≤◌, ◌+◌,
 use Rattle.std.specs.List.{AllByRecursion, slice_get}
 use Rattle.std.proofs.lemmas.Option.{slice_get-map}
 use base.Stored.{Gv}
+use Rattle.turnstile.specs.Dating.{Stamp}
 use Rattle.turnstile.specs.Laws.{HasSeen}
+use Rattle.turnstile.specs.Orders.{TakesTurns}
 use Rattle.turnstile.specs.Turning.{Each}
 use Rattle.dxc_outside.specs.declared.clock.Moment.{Moment}
 use Rattle.dxc_model.specs.declared.cause.Cause.{Cause}
@@ -15,11 +17,13 @@ use Rattle.user_admin.specs.declared.op.UserMark.{UserMark}
 use Rattle.user_admin.specs.Coding.{mark_coded as user_coded}
 use Rattle.user_admin.specs.Marks.{entries_of, holder as users_holder, place_of as user_place_of}
 use Rattle.user_admin.specs.Resting.{Rests as UsersRest, SawRest}
+use Rattle.user_admin.specs.Turns.{codes as user_codes}
 use Rattle.user_admin.proofs.Resting.{nothing_rests}
 use Rattle.user_admin.proofs.Marking.{each_entries}
 use Rattle.user_admin.specs.Histories.{IsLegal as AreLegal, Opening as UsersOpening, failures, users_after}
-use Rattle.xc_core.specs.Seeing.{Rests, entry_coded, place_of}
+use Rattle.xc_core.specs.Seeing.{Rests, codes, entry_coded, place_of}
 use Rattle.xc_core.specs.States.{LimitBehind, Opening, began, rules_of}
+use Rattle.craft_session.specs.Doing.{AnyEntry}
 use Rattle.craft_session.specs.Happenings.{Request}
 use Rattle.craft_session.specs.Meanings.{language}
 use Rattle.craft_session.specs.Places.{ArePlaces, Turnstiles, place_at}
@@ -28,7 +32,7 @@ use Rattle.switch_laws.specs.Element.{ComesTo, Session}
 use Rattle.switch_laws.specs.Laws.{IsExcused, Lives, element}
 use Rattle.switch_laws.specs.Beginnings.{IsPlayedWith}
 use Rattle.switch_laws.specs.Users.{AreHeard, Hearing, Listens}
-use Rattle.switch_laws.specs.Orders.{ActsAlong, AnyEntry, ArePlayedInOrder, IsOrderOf}
+use Rattle.switch_laws.specs.Orders.{ActsAlong, AnyMark, ArePlayedInOrder, IsOrderOf, any_entries, is_used_mark}
 use Rattle.switch_laws.proofs.Along.{in_one_order}
 use Rattle.switch_laws.proofs.Beginning.{played_with}
 use Rattle.switch_laws.proofs.Following.{together}
@@ -42,7 +46,7 @@ use Rattle.serve_laws.specs.Jobs.{Done, IsServedAt, Job, Ran, World, links_of}
 use Rattle.serve_laws.specs.Timing.{MomentAt, WereWrittenThen}
 use Rattle.serve_laws.proofs.Homes.{nobody_holds, fresh_rests, rested_all, rests_along}
 use Rattle.serve_laws.proofs.Keepers.{nobody_keeps, rested_users, same_place, users_rest_along}
-use Rattle.serve_laws.proofs.Serving.{Lived, Step, all_along, both_along, heard_along, lived}
+use Rattle.serve_laws.proofs.Serving.{Lived, Step, all_along, both_along, heard_along, left_seen, lived}
 use Rattle.serve_laws.proofs.Timing.{Allows}
 
 -- what a list has at a place, its image has there
@@ -110,7 +114,7 @@ module _ (w : World) (s : Contents) (o : Opening) (p : UsersOpening) (t : Turnst
         let x = ran_at k lt in
         lived w.disk.told w.uses.clock w.office.link w.uses.gate s o k p (first_at k lt) (last_at k lt) x.ran.served.callers x.ran.served.served
         (ap (λ (q : PlaceAt). q.shelf) x.there, ap (λ (q : PlaceAt). q.seat.opening) x.there, ap (λ (q : PlaceAt). q.seat.place) x.there, ap (λ (q : PlaceAt). q.users.opening) x.there, ap (λ (q : PlaceAt). q.users.place) x.there)
-        (ap (λ (q : PlaceAt). q.seat.seen) x.there) (ap (λ (q : PlaceAt). q.users.seen) x.there)
+        (ap (λ (q : PlaceAt). q.seat.seen) x.there) (ap (λ (q : PlaceAt). q.users.seen) x.there) (ap (λ (q : PlaceAt). q.seat.stamps) x.there, ap (λ (q : PlaceAt). q.users.stamps) x.there)
 
     abbrev sessions_by : (k : ℕ) → (k < 16) ⊎ (16 ≤ k) → List (Session Request Moment)
     sessions_by k (inl lt) = (place_lived k lt).sessions
@@ -121,8 +125,12 @@ module _ (w : World) (s : Contents) (o : Opening) (p : UsersOpening) (t : Turnst
     hearings_by k (inr ge) = []
 
     abbrev used_by : (k : ℕ) → (k < 16) ⊎ (16 ≤ k) → List AnyEntry
-    used_by k (inl lt) = (place_lived k lt).used
+    used_by k (inl lt) = (place_lived k lt).doing.used
     used_by k (inr ge) = []
+
+    abbrev took_by : (k : ℕ) → (k < 16) ⊎ (16 ≤ k) → List AnyMark
+    took_by k (inl lt) = (place_lived k lt).along.turns.took
+    took_by k (inr ge) = []
 
     pub sessions : ℕ → List (Session Request Moment)
     sessions k = sessions_by k (compared k 16)
@@ -132,6 +140,44 @@ module _ (w : World) (s : Contents) (o : Opening) (p : UsersOpening) (t : Turnst
 
     pub used : ℕ → List AnyEntry
     used k = used_by k (compared k 16)
+
+    -- and what turns left of it with the turnstiles
+    pub took : ℕ → List AnyMark
+    took k = took_by k (compared k 16)
+
+    pub took_used : (k : ℕ) → k < 16 → any_entries (took k) ≡ used k
+    unfolding used took
+    took_used k lt = elim (compared k 16) as (λ d. any_entries (took_by k d) ≡ used_by k d) [ inl below ↦ (place_lived k below).along.turns.used_are | inr ge ↦ absurd (omega (arith, lt, ge)) ]
+
+    -- What the place that a job left has seen of both turnstiles: it took its turns so.
+    pub record TookThen (k : ℕ) (took : List AnyMark) : Type 0 where
+      pub left : PlaceAt
+      pub left_is : slice_get lefts k ≡ Some left
+      pub table : List Entry
+      pub table_codes : left.seat.seen ≡ codes table
+      pub marks : List UserMark
+      pub marks_codes : left.users.seen ≡ user_codes marks
+      pub takes : TakesTurns (is_used_mark k) k left.seat.stamps table left.users.stamps marks took
+
+    pub took_then : (k : ℕ) → k < 16 → TookThen k (took k)
+    unfolding took
+    took_then k lt = elim (compared k 16) as (λ d. TookThen k (took_by k d)) [
+      | inl below ↦ (
+          let x = ran_at k below in
+          let y = place_lived k below in
+          let z = y.along.turns in
+          record {
+            left = x.left;
+            left_is = x.left_is;
+            table = z.left;
+            table_codes = left_seen w.disk.told w.uses.clock w.office.link w.uses.gate s o k p (first_at k below) x.ran.served.callers (last_at k below) x.ran.served.served y;
+            marks = y.doing.marks;
+            marks_codes = y.did.codes_are;
+            takes = subst (λ (t2 : List Stamp × List Stamp). TakesTurns (is_used_mark k) k t2.0 z.left t2.1 y.doing.marks z.took) (λ i. (sym y.did.stamps_are i, sym y.did.users_stamps_are i)) z.takes;
+          }
+          )
+      | inr ge ↦ absurd (omega (arith, lt, ge))
+    ]
 
     -- what came of a job, and so much its links had been written by a moment
     pub record ServedThen (k : ℕ) (ss : List (Session Request Moment)) (hs : List (Hearing Request)) : Type 1 where

@@ -2,6 +2,7 @@
 use Rattle.std.proofs.Common.{◌≡◌, ◌≢◌, ℕ, List, [], ◌∷◌, ◌++◌, refl, sym, ◌∙◌, ap, subst, append-nil, append_assoc, inl, inr}
 use Rattle.std.proofs.lemmas.List.{map-append}
 use base.Stored.{Gv}
+use Rattle.turnstile.specs.Orders.{no_turns}
 use Rattle.turnstile.specs.Turning.{Each}
 use Rattle.turnstile.proofs.Lists.{map_once}
 use Rattle.dxc_outside.specs.declared.clock.Moment.{Moment}
@@ -27,18 +28,21 @@ use Rattle.craft_session.specs.declared.end.SessionEnd.{SessionEnd}
 use Rattle.craft_session.specs.declared.end.SessionEnd.TheVariants.{End, ReadFault, WriteFault, Stopped, Spent, Unattended, Idle, Cancelled}
 use Rattle.craft_session.specs.declared.timestamps.Timestamps.{Ghosts as ClockOf}
 use Rattle.craft_session.specs.Asks.{Language, user_after}
+use Rattle.craft_session.specs.Doing.{AnyEntry, CutsOn, Doing, cut_on, heard_on}
 use Rattle.craft_session.specs.Happenings.{Request, unit}
 use Rattle.craft_session.specs.Meanings.{language}
-use Rattle.craft_session.specs.Sessions.{Beginning, Breaks, Halts, IsSession, Now, Served}
+use Rattle.craft_session.specs.Seats.{PlaceAt}
+use Rattle.craft_session.proofs.Changing.{others_unused}
+use Rattle.craft_session.specs.Sessions.{AreSeen, Beginning, Breaks, Halts, IsSession, Now, Served, done_before, now_of}
 use Rattle.switch_laws.specs.Element.{Session, unanswered}
-use Rattle.switch_laws.specs.Orders.{ActsAlong, AnyEntry, nobody_acts, table_goes_on}
-use Rattle.switch_laws.proofs.Beside.{Parts, attended, cut_before, cut_short, parts, users_on_all}
+use Rattle.switch_laws.specs.Orders.{ActsAlong, GoneAlong, after, nobody_acts}
+use Rattle.switch_laws.proofs.Beside.{Parts, cut_after, cut_before, gone_on, parts, table_on_all, users_on_all}
 use Rattle.switch_laws.specs.Laws.{Lives, nobody_came, passed_on, served, session_in, stopped, stopped_at_users}
 use Rattle.craft_server.specs.Callers.{InTurn, ServedCaller, Standing, none_yet, one_more}
 use Rattle.turnstile.specs.Laws.{HasSeen}
 use Rattle.serve_laws.specs.Timing.{MomentAt, WasWrittenThen, WereWrittenThen}
 use Rattle.serve_laws.specs.Written.{AreHeardIn, AreWritten, IsHeardIn, IsWritten, links_in}
-use Rattle.serve_laws.proofs.Timing.{Allows, saw_on, was_written_then}
+use Rattle.serve_laws.proofs.Timing.{Allows, same_rest, saw_on, was_written_then}
 
 -- of what was seen of the users' turnstile these are the entries
 abbrev pub Sees : List Gv → List UserEntry → Type 0
@@ -48,28 +52,32 @@ sees_once : (seen : List Gv) (h g : List UserEntry) → Sees seen h → Sees see
 sees_once seen h g first then = sym first.2 ∙ ap entries_of (same_marks seen first.0 then.0 first.1 then.1) ∙ then.2
 
 -- where the sessions of a place stand: the history so far, after what the opening counts as, and the newest session
-record Came (l : Language Request Moment) (o : Opening) (own : ℕ) (told : Type 0) (k j : LinkState) (seen : List Gv) (ss : List (Session Request Moment)) (us : UsersOpening) (users_seen : List Gv) (hs : List (Hearing Request)) : Type 0 where
+record Came (l : Language Request Moment) (o : Opening) (own : ℕ) (told : Type 0) (k j : LinkState) (now : Now) (ss : List (Session Request Moment)) (us : UsersOpening) (hs : List (Hearing Request)) : Type 0 where
   pub history : List Entry
   pub session : Session Request Moment
   pub lives : Lives l own o.first.fold.table (began o.due) history (session ∷ ss)
   pub written : IsWritten told k j session
-  pub saw : codes (began o.due) ++ seen ≡ codes history
+  pub saw : codes (began o.due) ++ now.seen ≡ codes history
   pub users_history : List UserEntry
   pub hearing : Hearing Request
   pub listens : Listens l own us users_history (hearing ∷ hs)
   pub heard_in : IsHeardIn session hearing
-  pub users_saw : Sees users_seen users_history
-  pub used : List AnyEntry
-  pub along : ActsAlong l own o.first.fold.table us (began o.due) history users_history used (session ∷ ss)
+  pub users_saw : Sees now.users users_history
+  pub doing : Doing
+  pub did : AreSeen now.stamps now.users_stamps now.users doing
+  pub along : GoneAlong l own o.first.fold.table us (began o.due) history doing (session ∷ ss)
 
-module _ (l : Language Request Moment) (told clock_told : Type 0) (k j : LinkState) (c d : List Moment) (b : Beginning) (now : Now) (ss : List (Session Request Moment)) (lives : Lives l b.place b.opening.first.fold.table (began b.opening.due) b.before ss) (hs : List (Hearing Request)) (listens : Listens l b.place b.users b.users_before hs) (used : List AnyEntry) (along : ActsAlong l b.place b.opening.first.fold.table b.users (began b.opening.due) b.before b.users_before used ss) (apart : Parts l) where
+module _ (l : Language Request Moment) (told clock_told : Type 0) (k j : LinkState) (c d : List Moment) (b : Beginning) (now : Now) (ss : List (Session Request Moment)) (lives : Lives l b.place b.opening.first.fold.table (began b.opening.due) b.before ss) (hs : List (Hearing Request)) (listens : Listens l b.place b.users b.users_before hs) (earlier : List AnyEntry)
+    (along : GoneAlong l b.place b.opening.first.fold.table b.users (began b.opening.due) b.before (after earlier b.first) ss) (apart : Parts l) where
   abbrev Gone : Type 0
-  Gone = Came l b.opening b.place told k j now.seen ss b.users now.users hs
+  Gone = Came l b.opening b.place told k j now ss b.users hs
+
+  done_after : (x : Doing) → AreSeen now.stamps now.users_stamps now.users x → AreSeen now.stamps now.users_stamps now.users (after earlier x)
+  done_after x y = record { stamps_are = y.stamps_are; users_stamps_are = y.users_stamps_are; codes_are = y.codes_are }
 
   whole : Served l told clock_told k j c d b now → Gone
   whole x =
       let p = x.past in
-      let a = attended l b.place b.opening.first.fold.table b.users (began b.opening.due) apart b.before b.users_before used ss along p.walk p.run p.walk.happenings p.consulted.history p.walk.attending.user p.consulted.heard refl in
       record {
         history = p.walk.history;
         session = session_in p.walk;
@@ -91,14 +99,14 @@ module _ (l : Language Request Moment) (told clock_told : Type 0) (k j : LinkSta
         listens = consulted_on b.users_before p.consulted.history hs p.walk.happenings p.walk.attending.user p.consulted.heard listens;
         heard_in = inl refl;
         users_saw = (p.consulted.saw.marks, p.consulted.saw.codes_are, p.consulted.saw.entries_are);
-        used = a.used;
-        along = a.along;
+        doing = after earlier p.done.doing;
+        did = done_after p.done.doing p.done.by_now;
+        along = gone_on l b.place b.opening.first.fold.table b.users (began b.opening.due) earlier apart b.before b.first ss along p.walk p.done.doing p.done.does;
       }
 
   broken : Breaks l told clock_told k j c d b now → Gone
   broken x =
       let p = x.past in
-      let a = attended l b.place b.opening.first.fold.table b.users (began b.opening.due) apart b.before b.users_before used ss along p.walk p.run p.walk.happenings p.consulted.history p.walk.attending.user p.consulted.heard refl in
       record {
         history = p.walk.history;
         session = session_in p.walk;
@@ -120,8 +128,9 @@ module _ (l : Language Request Moment) (told clock_told : Type 0) (k j : LinkSta
         listens = consulted_on b.users_before p.consulted.history hs p.walk.happenings p.walk.attending.user p.consulted.heard listens;
         heard_in = inl refl;
         users_saw = (p.consulted.saw.marks, p.consulted.saw.codes_are, p.consulted.saw.entries_are);
-        used = a.used;
-        along = a.along;
+        doing = after earlier p.done.doing;
+        did = done_after p.done.doing p.done.by_now;
+        along = gone_on l b.place b.opening.first.fold.table b.users (began b.opening.due) earlier apart b.before b.first ss along p.walk p.done.doing p.done.does;
       }
 
   halted : Halts l told clock_told k j c d b now → Gone
@@ -140,21 +149,26 @@ module _ (l : Language Request Moment) (told clock_told : Type 0) (k j : LinkSta
         cut = inl refl;
       } in
       elim p.stopped [
-        | inl t ↦ (let a = cut_short l b.place b.opening.first.fold.table b.users (began b.opening.due) apart b.before b.users_before used ss along w p.run p.looked p.last (w.happenings ++ unit p.last ∷ []) t.consulted.history (user_after w.attending.user (l.asks w.attending.user p.last)) t.consulted.heard refl t.stops.front t.stops.op t.stops.stands t.stops.cuts in record {
-          history = _;
-          session = unanswered p.last (session_in w);
-          lives = stopped b.before ss w p.last t.stops.front t.stops.op p.run p.looked t.stops.stands t.stops.cuts lives;
-          written = written;
-          saw = t.stops.saw.codes_are;
-          users_history = t.consulted.history;
-          hearing = record { happenings = w.happenings ++ unit p.last ∷ []; user = user_after w.attending.user (l.asks w.attending.user p.last) };
-          listens = consulted_on b.users_before t.consulted.history hs (w.happenings ++ unit p.last ∷ []) (user_after w.attending.user (l.asks w.attending.user p.last)) t.consulted.heard listens;
-          heard_in = inl refl;
-          users_saw = (t.consulted.saw.marks, t.consulted.saw.codes_are, t.consulted.saw.entries_are);
-          used = a.0;
-          along = a.1;
-        })
-        | inr t ↦ (let a = cut_before l b.place b.opening.first.fold.table b.users (began b.opening.due) apart b.before b.users_before used ss along w p.run p.looked p.last t.consulted.history w.attending.user t.consulted.heard t.op t.wanted t.changing in record {
+        | inl t ↦ (
+            let y = t.done in
+            let cuts : CutsOn b.place w.history ((heard_on y.doing y.hears).users_stamps) (l.asks w.attending.user p.last) = record { front = t.stops.front; stands = t.stops.stands; op = t.stops.op; cuts = t.stops.cuts; stamps = y.stamps; dated = y.dated } in
+            record {
+              history = _;
+              session = unanswered p.last (session_in w);
+              lives = stopped b.before ss w p.last t.stops.front t.stops.op p.run p.looked t.stops.stands t.stops.cuts lives;
+              written = written;
+              saw = t.stops.saw.codes_are;
+              users_history = t.consulted.history;
+              hearing = record { happenings = w.happenings ++ unit p.last ∷ []; user = user_after w.attending.user (l.asks w.attending.user p.last) };
+              listens = consulted_on b.users_before t.consulted.history hs (w.happenings ++ unit p.last ∷ []) (user_after w.attending.user (l.asks w.attending.user p.last)) t.consulted.heard listens;
+              heard_in = inl refl;
+              users_saw = (t.consulted.saw.marks, t.consulted.saw.codes_are, t.consulted.saw.entries_are);
+              doing = after earlier (cut_on y.doing y.hears cuts);
+              did = record { stamps_are = y.by_now.stamps_are; users_stamps_are = y.by_now.users_stamps_are; codes_are = y.by_now.codes_are };
+              along = cut_after l b.place b.opening.first.fold.table b.users (began b.opening.due) earlier apart b.before b.first ss along w y.doing y.does p.looked p.last y.hears cuts;
+            }
+            )
+        | inr t ↦ record {
           history = w.history;
           session = unanswered p.last (session_in w);
           lives = stopped_at_users b.before ss w p.last t.op p.run p.looked t.wanted t.changing lives;
@@ -165,9 +179,10 @@ module _ (l : Language Request Moment) (told clock_told : Type 0) (k j : LinkSta
           listens = consulted_on b.users_before t.consulted.history hs w.happenings w.attending.user t.consulted.heard listens;
           heard_in = inr (p.last, refl);
           users_saw = (t.consulted.saw.marks, t.consulted.saw.codes_are, t.consulted.saw.entries_are);
-          used = a.0;
-          along = a.1;
-        })
+          doing = after earlier t.done.doing;
+          did = done_after t.done.doing t.done.by_now;
+          along = cut_before l b.place b.opening.first.fold.table b.users (began b.opening.due) earlier apart b.before b.first ss along w t.done.doing t.done.does p.looked p.last t.op t.wanted t.changing;
+        }
       ]
 
   gone : (end : SessionEnd) → IsSession l told clock_told k j c d b now end → Gone
@@ -191,6 +206,10 @@ module _ (disk_told : Type 0) {C K G : Type 0} (clock : ClockOf C) (link : LinkO
   abbrev pub IsOf : Contents → Opening → ℕ → UsersOpening → Standing G → Type 0
   IsOf s o own us t = (t.place.shelf ≡ s) × (t.place.seat.opening ≡ o) × (t.place.seat.place ≡ own) × (t.place.users.opening ≡ us) × (t.place.users.place ≡ own)
 
+  -- the place has seen so much of both histories
+  abbrev pub HasDoneIn : PlaceAt → Doing → Type 0
+  HasDoneIn p x = AreSeen p.seat.stamps p.users.stamps p.users.seen x
+
   -- what the callers of a place came to: its sessions along the history that it has seen, and what they heard along that of the users
   pub record Lived (s : Contents) (o : Opening) (own : ℕ) (us : UsersOpening) (first : Standing G) (came : List K) (t : Standing G) (turns : InTurn Step first came t) : Type 1 where
     pub history : List Entry
@@ -205,35 +224,46 @@ module _ (disk_told : Type 0) {C K G : Type 0} (clock : ClockOf C) (link : LinkO
     pub heard_in : AreHeardIn sessions hearings
     pub users_saw : Sees t.place.users.seen users_history
     -- both in one, with the entries that they used
-    pub used : List AnyEntry
-    pub along : ActsAlong (language s) own o.first.fold.table us (began o.due) history users_history used sessions
+    pub doing : Doing
+    pub did : HasDoneIn t.place doing
+    pub along : GoneAlong (language s) own o.first.fold.table us (began o.due) history doing sessions
     -- so much each link had been written by a moment, when the place had seen a beginning of this
     pub written_then : (m : MomentAt) → Allows link.told clock.stamped (language s) o own m → (rest more : List Gv) → t.place.seat.seen ++ rest ≡ m.seen ++ more → WereWrittenThen m link.state (links_in disk_told clock link gate first came t turns) sessions
+
+  -- where a session begins, by what its contract tells of what the seats had seen
+  abbrev pub begins_at : (t u : Standing G) (c : K) → Step t u c → Beginning
+  begins_at t u c x = record { opening = t.place.seat.opening; users = t.place.users.opening; place = t.place.seat.place; before = x.session.before; users_before = x.session.users_before; first = done_before t.place.seat t.place.users x.session.users_saw.marks }
+
+  -- what the place has done is what was done before, and then nothing yet
+  same_doing : (t u : Standing G) (c : K) (x : Step t u c) (y : Doing) → HasDoneIn t.place y → y ≡ after y.used (begins_at t u c x).first
+  same_doing t u c x y did =
+      let marks : y.marks ≡ x.session.users_saw.marks = same_marks t.place.users.seen y.marks x.session.users_saw.marks did.codes_are x.session.users_saw.codes_are in
+      λ i. record { stamps = sym did.stamps_are i; marks = marks i; users_stamps = sym did.users_stamps_are i; used = sym (append-nil y.used) i }
 
   -- one caller more
   called : (t u : Standing G) (c : K) (x : Step t u c) (h : List Entry) (ss : List (Session Request Moment)) (g : List UserEntry) (hs : List (Hearing Request)) → Lives (language t.place.shelf) t.place.seat.place t.place.seat.opening.first.fold.table (began t.place.seat.opening.due) h ss
       → codes (began t.place.seat.opening.due) ++ t.place.seat.seen ≡ codes h → Listens (language t.place.shelf) t.place.seat.place t.place.users.opening g hs → Sees t.place.users.seen g
-      → (used : List AnyEntry) → ActsAlong (language t.place.shelf) t.place.seat.place t.place.seat.opening.first.fold.table t.place.users.opening (began t.place.seat.opening.due) h g used ss
-      → Came (language t.place.shelf) t.place.seat.opening t.place.seat.place link.told (link.state c) (link.state x.left) u.place.seat.seen ss t.place.users.opening u.place.users.seen hs
-  called t u c x h ss g hs lives saw listens users_saw used along =
+      → (y : Doing) → HasDoneIn t.place y → GoneAlong (language t.place.shelf) t.place.seat.place t.place.seat.opening.first.fold.table t.place.users.opening (began t.place.seat.opening.due) h y ss
+      → Came (language t.place.shelf) t.place.seat.opening t.place.seat.place link.told (link.state c) (link.state x.left) (now_of u.place.seat u.place.users x.session.attending) ss t.place.users.opening hs
+  called t u c x h ss g hs lives saw listens users_saw y did along =
       let v = x.session in
       let same : h ≡ v.before = same_codes h v.before (sym saw ∙ v.saw.codes_are) in
       let users_same : g ≡ v.users_before = sees_once t.place.users.seen g v.users_before users_saw (v.users_saw.marks, v.users_saw.codes_are, v.users_saw.entries_are) in
+      let done_same = same_doing t u c x y did in
       let l = language t.place.shelf in
       let there : Lives l t.place.seat.place t.place.seat.opening.first.fold.table (began t.place.seat.opening.due) v.before ss = subst (λ (k : List Entry). Lives l t.place.seat.place t.place.seat.opening.first.fold.table (began t.place.seat.opening.due) k ss) same lives in
       let heard : Listens l t.place.seat.place t.place.users.opening v.users_before hs = subst (λ (k : List UserEntry). Listens l t.place.seat.place t.place.users.opening k hs) users_same listens in
-      let along_so : ActsAlong l t.place.seat.place t.place.seat.opening.first.fold.table t.place.users.opening (began t.place.seat.opening.due) v.before v.users_before used ss = subst (λ (k : List Entry × List UserEntry). ActsAlong l t.place.seat.place t.place.seat.opening.first.fold.table t.place.users.opening (began t.place.seat.opening.due) k.0 k.1 used ss) (λ i. (same i, users_same i)) along in
-      gone l link.told clock.told (link.state c) (link.state x.left) t.moments u.moments (record { opening = t.place.seat.opening; users = t.place.users.opening; place = t.place.seat.place; before = v.before; users_before = v.users_before })
-      (record { seen = u.place.seat.seen; users = u.place.users.seen; attending = v.attending }) ss there hs heard used along_so (parts t.place.shelf) x.end v.session
+      let along_so = subst (λ (k : List Entry × Doing). GoneAlong l t.place.seat.place t.place.seat.opening.first.fold.table t.place.users.opening (began t.place.seat.opening.due) k.0 k.1 ss) (λ i. (same i, done_same i)) along in
+      gone l link.told clock.told (link.state c) (link.state x.left) t.moments u.moments (begins_at t u c x) (now_of u.place.seat u.place.users v.attending) ss there hs heard y.used along_so (parts t.place.shelf) x.end v.session
 
   called_as : (s : Contents) (o : Opening) (own : ℕ) (us : UsersOpening) (t u : Standing G) (c : K) (x : Step t u c) (h : List Entry) (ss : List (Session Request Moment)) (g : List UserEntry) (hs : List (Hearing Request)) → IsOf s o own us t
       → Lives (language s) own o.first.fold.table (began o.due) h ss → codes (began o.due) ++ t.place.seat.seen ≡ codes h → Listens (language s) own us g hs → Sees t.place.users.seen g
-      → (used : List AnyEntry) → ActsAlong (language s) own o.first.fold.table us (began o.due) h g used ss
-      → Came (language s) o own link.told (link.state c) (link.state x.left) u.place.seat.seen ss us u.place.users.seen hs
+      → (y : Doing) → HasDoneIn t.place y → GoneAlong (language s) own o.first.fold.table us (began o.due) h y ss
+      → Came (language s) o own link.told (link.state c) (link.state x.left) (now_of u.place.seat u.place.users x.session.attending) ss us hs
   called_as s o own us t u c x h ss g hs is =
       subst (λ (y : Contents × Opening × ℕ × UsersOpening). Lives (language y.0) y.2 y.1.first.fold.table (began y.1.due) h ss → codes (began y.1.due) ++ t.place.seat.seen ≡ codes h → Listens (language y.0) y.2 y.3 g hs → Sees t.place.users.seen g
-      → (used : List AnyEntry) → ActsAlong (language y.0) y.2 y.1.first.fold.table y.3 (began y.1.due) h g used ss
-      → Came (language y.0) y.1 y.2 link.told (link.state c) (link.state x.left) u.place.seat.seen ss y.3 u.place.users.seen hs)
+      → (z : Doing) → HasDoneIn t.place z → GoneAlong (language y.0) y.2 y.1.first.fold.table y.3 (began y.1.due) h z ss
+      → Came (language y.0) y.1 y.2 link.told (link.state c) (link.state x.left) (now_of u.place.seat u.place.users x.session.attending) ss y.3 hs)
       (λ i. (is.0 i, is.1 i, is.2 i, is.3 i)) (called t u c x h ss g hs)
 
   -- so much its link had been written by a moment
@@ -244,9 +274,9 @@ module _ (disk_told : Type 0) {C K G : Type 0} (clock : ClockOf C) (link : LinkO
       let v = x.session in
       let l = language t.place.shelf in
       let same : h ≡ v.before = same_codes h v.before (sym saw ∙ v.saw.codes_are) in
-      let b : Beginning = record { opening = t.place.seat.opening; users = t.place.users.opening; place = t.place.seat.place; before = v.before; users_before = v.users_before } in
+      let b = begins_at t u c x in
       let lived_so : Lives l t.place.seat.place t.place.seat.opening.first.fold.table (began t.place.seat.opening.due) v.before ss = subst (λ (k : List Entry). Lives l t.place.seat.place t.place.seat.opening.first.fold.table (began t.place.seat.opening.due) k ss) same lives in
-      was_written_then link.told clock.told clock.stamped l (link.state c) (link.state x.left) t.moments u.place.seat.seen u.place.users.seen b ss lived_so m a rest more ends (x.timely b (refl, refl, refl, there) v.saw v.users_saw) out all
+      was_written_then link.told clock.told clock.stamped l (link.state c) (link.state x.left) t.moments u.place.seat.seen u.place.users.seen b ss lived_so m a rest more ends (x.timely b (refl, refl, refl, there) v.saw v.users_saw (record { stamps_are = refl; users_stamps_are = refl; codes_are = v.users_saw.codes_are })) out all
 
   called_then_as : (s : Contents) (o : Opening) (own : ℕ) (us : UsersOpening) (t u : Standing G) (c : K) (x : Step t u c) (h : List Entry) (ss : List (Session Request Moment)) → IsOf s o own us t → Lives (language s) own o.first.fold.table (began o.due) h ss → codes (began o.due) ++ t.place.seat.seen ≡ codes h
       → (m : MomentAt) → Allows link.told clock.stamped (language s) o own m → (rest more : List Gv) → u.place.seat.seen ++ rest ≡ m.seen ++ more → (out : List ℕ) → (link.state x.left).written ≡ (link.state c).written ++ out → WasWrittenThen m ss (link.state c) (link.state x.left)
@@ -255,8 +285,8 @@ module _ (disk_told : Type 0) {C K G : Type 0} (clock : ClockOf C) (link : LinkO
       → (m : MomentAt) → Allows link.told clock.stamped (language y.0) y.1 y.2 m → (rest more : List Gv) → u.place.seat.seen ++ rest ≡ m.seen ++ more → (out : List ℕ) → (link.state x.left).written ≡ (link.state c).written ++ out → WasWrittenThen m ss (link.state c) (link.state x.left))
       (λ i. (is.0 i, is.1 i, is.2 i)) (called_then t u c x h ss (is.4 ∙ sym is.2))
 
-  pub lived : (s : Contents) (o : Opening) (own : ℕ) (us : UsersOpening) (t u : Standing G) (came : List K) (turns : InTurn Step t came u) → IsOf s o own us t → t.place.seat.seen ≡ [] → t.place.users.seen ≡ [] → Lived s o own us t came u turns
-  lived s o own us _ _ _ (none_yet t) is none users_none = record {
+  pub lived : (s : Contents) (o : Opening) (own : ℕ) (us : UsersOpening) (t u : Standing G) (came : List K) (turns : InTurn Step t came u) → IsOf s o own us t → t.place.seat.seen ≡ [] → t.place.users.seen ≡ [] → (t.place.seat.stamps ≡ []) × (t.place.users.stamps ≡ []) → Lived s o own us t came u turns
+  lived s o own us _ _ _ (none_yet t) is none users_none stamps_none = record {
     history = began o.due;
     sessions = [];
     is = is;
@@ -268,13 +298,14 @@ module _ (disk_told : Type 0) {C K G : Type 0} (clock : ClockOf C) (link : LinkO
     listens = nobody_asked;
     heard_in = tt;
     users_saw = ([], users_none, refl);
-    used = [];
-    along = nobody_acts;
+    doing = record { stamps = []; marks = []; users_stamps = []; used = [] };
+    did = record { stamps_are = stamps_none.0; users_stamps_are = stamps_none.1; codes_are = users_none };
+    along = record { acts = nobody_acts; turns = record { left = []; whole = sym (append-nil (began o.due)); took = []; takes = no_turns; used_are = refl } };
     written_then = λ m a rest more ends. tt;
   }
-  lived s o own us _ _ _ (one_more t m u ks c turns x) is none users_none =
-      let so_far = lived s o own us t m ks turns is none users_none in
-      let now = called_as s o own us m u c x so_far.history so_far.sessions so_far.users_history so_far.hearings so_far.is so_far.lives so_far.saw so_far.listens so_far.users_saw so_far.used so_far.along in
+  lived s o own us _ _ _ (one_more t m u ks c turns x) is none users_none stamps_none =
+      let so_far = lived s o own us t m ks turns is none users_none stamps_none in
+      let now = called_as s o own us m u c x so_far.history so_far.sessions so_far.users_history so_far.hearings so_far.is so_far.lives so_far.saw so_far.listens so_far.users_saw so_far.doing so_far.did so_far.along in
       record {
         history = now.history;
         sessions = now.session ∷ so_far.sessions;
@@ -287,7 +318,8 @@ module _ (disk_told : Type 0) {C K G : Type 0} (clock : ClockOf C) (link : LinkO
         listens = now.listens;
         heard_in = (now.heard_in, so_far.heard_in);
         users_saw = now.users_saw;
-        used = now.used;
+        doing = now.doing;
+        did = now.did;
         along = now.along;
         written_then = λ w a rest more ends.
             let entered = x.gated x.session.before x.session.users_before x.session.saw x.session.users_saw in
@@ -319,21 +351,25 @@ module _ (disk_told : Type 0) {C K G : Type 0} (clock : ClockOf C) (link : LinkO
       let whole : x.users_history ++ entries_of seen.later ≡ entries_of left = ap (λ (g : List UserEntry). g ++ entries_of seen.later) here ∙ sym (entries_append seen.begun seen.later) ∙ ap entries_of seen.whole in
       subst (λ (g : List UserEntry). Listens (language s) own us g x.hearings) whole (others_asked_on (language s) own us x.users_history (entries_of seen.later) x.hearings x.listens (others_entries own seen.later seen.others))
 
-  table_on_all : (l : Language Request Moment) (own : ℕ) (t : Board) (us : UsersOpening) (past h more : List Entry) (g : List UserEntry) (used : List AnyEntry) (ss : List (Session Request Moment)) → ActsAlong l own t us past h g used ss → Each (λ e. e.place ≢ own) more → ActsAlong l own t us past (h ++ more) g used ss
-  table_on_all l own t us past h [] g used ss x others = subst (λ (k : List Entry). ActsAlong l own t us past k g used ss) (sym (append-nil h)) x
-  table_on_all l own t us past h (e ∷ es) g used ss x others = subst (λ (k : List Entry). ActsAlong l own t us past k g used ss) (append_assoc h (e ∷ []) es) (table_on_all l own t us past (h ++ e ∷ []) es g used ss (table_goes_on h g used ss e (inl others.0) x) others.1)
-
   -- and both along the whole histories
   pub both_along : (s : Contents) (o : Opening) (own : ℕ) (us : UsersOpening) (first : Standing G) (came : List K) (t : Standing G) (turns : InTurn Step first came t) (history : List Entry) (left : List UserMark) → (x : Lived s o own us first came t turns)
-      → HasSeen entry_coded.code place_of history own t.place.seat.seen → HasSeen user_coded.code user_place_of left own t.place.users.seen → ActsAlong (language s) own o.first.fold.table us (began o.due) (began o.due ++ history) (entries_of left) x.used x.sessions
+      → HasSeen entry_coded.code place_of history own t.place.seat.seen → HasSeen user_coded.code user_place_of left own t.place.users.seen → ActsAlong (language s) own o.first.fold.table us (began o.due) (began o.due ++ history) (entries_of left) x.doing.used x.sessions
   both_along s o own us first came t turns history left x seen users_seen =
       let past = began o.due in
       let l = language s in
       let board = o.first.fold.table in
       let here : x.history ≡ past ++ seen.begun = same_codes x.history (past ++ seen.begun) (sym x.saw ∙ ap (λ (g : List Gv). codes past ++ g) seen.codes ∙ sym (map-append entry_coded.code past seen.begun)) in
       let whole : x.history ++ seen.later ≡ past ++ history = ap (λ (g : List Entry). g ++ seen.later) here ∙ append_assoc past seen.begun seen.later ∙ ap (λ (g : List Entry). past ++ g) seen.whole in
-      let users_here : x.users_history ≡ entries_of users_seen.begun = sees_once t.place.users.seen x.users_history (entries_of users_seen.begun) x.users_saw (users_seen.begun, users_seen.codes, refl) in
-      let users_whole : x.users_history ++ entries_of users_seen.later ≡ entries_of left = ap (λ (g : List UserEntry). g ++ entries_of users_seen.later) users_here ∙ sym (entries_append users_seen.begun users_seen.later) ∙ ap entries_of users_seen.whole in
-      let on = table_on_all l own board us past x.history seen.later x.users_history x.used x.sessions x.along seen.others in
-      let both = users_on_all l own board us past (x.history ++ seen.later) x.users_history (entries_of users_seen.later) x.used x.sessions (others_entries own users_seen.later users_seen.others) on in
-      subst (λ (k : List Entry × List UserEntry). ActsAlong l own board us past k.0 k.1 x.used x.sessions) (λ i. (whole i, users_whole i)) both
+      let g = entries_of x.doing.marks in
+      let users_here : g ≡ entries_of users_seen.begun = sees_once t.place.users.seen g (entries_of users_seen.begun) (x.doing.marks, x.did.codes_are, refl) (users_seen.begun, users_seen.codes, refl) in
+      let users_whole : g ++ entries_of users_seen.later ≡ entries_of left = ap (λ (k : List UserEntry). k ++ entries_of users_seen.later) users_here ∙ sym (entries_append users_seen.begun users_seen.later) ∙ ap entries_of users_seen.whole in
+      let on = table_on_all l own board us past x.history seen.later g x.doing.used x.sessions (others_unused own seen.later seen.others) x.along.acts in
+      let both = users_on_all l own board us past (x.history ++ seen.later) g (entries_of users_seen.later) x.doing.used x.sessions (others_entries own users_seen.later users_seen.others) on in
+      subst (λ (k : List Entry × List UserEntry). ActsAlong l own board us past k.0 k.1 x.doing.used x.sessions) (λ i. (whole i, users_whole i)) both
+
+  -- what the place has seen of the table is what turns left there
+  pub left_seen : (s : Contents) (o : Opening) (own : ℕ) (us : UsersOpening) (first : Standing G) (came : List K) (t : Standing G) (turns : InTurn Step first came t) → (x : Lived s o own us first came t turns) → t.place.seat.seen ≡ codes x.along.turns.left
+  left_seen s o own us first came t turns x =
+      let past = began o.due in
+      let left = x.along.turns.left in
+      same_rest (codes past) t.place.seat.seen (codes left) (x.saw ∙ ap codes x.along.turns.whole ∙ map-append entry_coded.code past left)

@@ -27,7 +27,7 @@ abbrev tl : {A : Type 0} → List A → List A
 tl [] = []
 tl (x ∷ xs) = xs
 
-same_rest : {A : Type 0} (xs ys zs : List A) → xs ++ ys ≡ xs ++ zs → ys ≡ zs
+pub same_rest : {A : Type 0} (xs ys zs : List A) → xs ++ ys ≡ xs ++ zs → ys ≡ zs
 same_rest [] ys zs e = e
 same_rest (x ∷ xs) ys zs e = same_rest xs ys zs (ap tl e)
 

@@ -30,6 +30,7 @@ use Rattle.xc_core.specs.Coding.{opening_coded}
 use Rattle.xc_core.specs.Seeing.{entry_coded, place_of}
 use Rattle.xc_core.specs.States.{LimitBehind, Opening, Stands, StandsFor, began, opening_of}
 use Rattle.xc_core.proofs.Reckoning.{reckoned_table}
+use Rattle.craft_session.specs.Doing.{AnyEntry}
 use Rattle.craft_session.specs.Happenings.{Request}
 use Rattle.craft_session.specs.Meanings.{language}
 use Rattle.craft_session.specs.Places.{HasPlaces}
@@ -38,21 +39,23 @@ use Rattle.switch_laws.specs.Beginnings.{IsPlayedWith}
 use Rattle.switch_laws.specs.Element.{ComesTo, Session, Turn}
 use Rattle.switch_laws.specs.Laws.{IsExcused, Lives}
 use Rattle.switch_laws.specs.Moments.{changed}
+use Rattle.switch_laws.specs.Orders.{IsOrderOf}
 use Rattle.switch_laws.proofs.Passing.{moment_of, table_changed}
 use Rattle.dxc_jobs.specs.declared.frames_left.FramesLeft.{FramesLeft}
 use Rattle.dxc_jobs.specs.Begun.{AreRan}
 use Rattle.dxc_jobs.specs.Leaves.{left_by}
 use Rattle.craft_server.specs.Serving.{SiteAt}
-use Rattle.serve_laws.specs.Headline.{IsEarlier, IsEnd, IsHitlessFabric, IsOneElement, IsOneOrder, IsOrder, LiesFor, LinksThen, Lying, Sessions, UsersLying, WasThen, behind, moment_at, opened, seen_by, users_seen_by}
+use Rattle.serve_laws.specs.Headline.{IsEarlier, IsEnd, IsHitlessFabric, IsOneElement, IsOneOrder, IsOrder, LiesFor, LinksThen, Lying, Sessions, UsersLying, WasThen, behind, moment_at, opened, seen_by, table_seen, users_seen, users_seen_by}
 use Rattle.serve_laws.specs.Jobs.{Job, Jobs, Ran, World, links_of}
 use Rattle.serve_laws.specs.Timing.{MomentAt}
 use Rattle.serve_laws.proofs.Earlier.{SeesOn, earlier}
 use Rattle.serve_laws.proofs.Keepers.{keeper_home}
 use Rattle.serve_laws.proofs.Leaving.{brought_home, leaves_changes}
+use Rattle.serve_laws.proofs.Ordered.{ordered, passes}
 use Rattle.serve_laws.proofs.Owning.{all_own, core_of}
-use Rattle.serve_laws.proofs.Placing.{get_map, heard_as_one, heard_then, hearings, map_length, nobody_has, nobody_keeps_it, acts_each, played_as_one, played_in_order, played_then, ran_length, served_then, sessions, used}
+use Rattle.serve_laws.proofs.Placing.{get_map, heard_as_one, heard_then, hearings, map_length, nobody_has, nobody_keeps_it, acts_each, played_as_one, played_in_order, played_then, ran_length, served_then, sessions, took, took_then, took_used, used}
 use Rattle.serve_laws.proofs.Timing.{Allows}
-use Rattle.serve_laws.proofs.Resting.{at_home, begun, count, get_below, history, lying, numbers, opening_is, seen_at, stand}
+use Rattle.serve_laws.proofs.Resting.{at_home, begun, count, get_below, history, lying, has_one, numbers, opening_is, seen_at, stand, view_at}
 
 module _ (w : World) (synced : SyncedAreMirrored w.disk.told w.disk.state) (adopted : StandbysAreAdopted w.disk.told w.disk.state) (since : StandbysStandSince w.disk.told w.disk.state) (users_since : UsersStandSince w.disk.told w.disk.state) (s : Contents) (o : Opening) (p : UsersOpening) (jobs : List (Job w)) (lefts : List PlaceAt) (seats : List FramesLeft) (sixteen : length jobs ≡ 16) (has : HasPlaces s o p 16 (map (λ (j : Job w). j.place) jobs)) (ran : AreRan (left_by (Ran w)) jobs lefts) (e : IsEnd w o p has.turnstiles lefts seats) where
   many : {X : Type 0} (f : PlaceAt → X) → length (map f lefts) ≡ 16
@@ -62,10 +65,10 @@ module _ (w : World) (synced : SyncedAreMirrored w.disk.told w.disk.state) (adop
   some = omega arith
 
   seen_many : length (seen_by lefts) ≡ 16
-  seen_many = many (λ (q : PlaceAt). q.seat.seen)
+  seen_many = many table_seen
 
   users_many : length (users_seen_by lefts) ≡ 16
-  users_many = many (λ (q : PlaceAt). q.users.seen)
+  users_many = many users_seen
 
   abbrev h : List Entry
   h = history _ _ _ _ _ _ _ _ _ e.of_state
@@ -74,7 +77,7 @@ module _ (w : World) (synced : SyncedAreMirrored w.disk.told w.disk.state) (adop
   few = numbers _ _ _ _ _ _ _ _ _ e.of_state opening_coded.inj o 16 has.state_made seen_many some
 
   seen : (k : ℕ) (q : PlaceAt) → slice_get lefts k ≡ Some q → HasSeen entry_coded.code place_of h k q.seat.seen
-  seen k q is = seen_at _ _ _ _ _ _ _ _ _ e.of_state k q.seat.seen (get_map (λ (x : PlaceAt). x.seat.seen) lefts k q is)
+  seen k q is = seen_at _ _ _ _ _ _ _ _ _ e.of_state k (table_seen q) (get_map table_seen lefts k q is)
 
   abbrev lies : Lying w
   lies = lying _ _ _ _ _ _ _ _ _ e.of_state opening_coded.inj o 16 has.state_made seen_many some
@@ -88,8 +91,8 @@ module _ (w : World) (synced : SyncedAreMirrored w.disk.told w.disk.state) (adop
   users_few : Each (λ (x : UserMark). user_place_of x < 16) g
   users_few = numbers _ _ _ _ _ _ _ _ _ e.of_users users_coded.inj p 16 has.users_made users_many some
 
-  users_seen : (k : ℕ) (q : PlaceAt) → slice_get lefts k ≡ Some q → HasSeen user_coded.code user_place_of g k q.users.seen
-  users_seen k q is = seen_at _ _ _ _ _ _ _ _ _ e.of_users k q.users.seen (get_map (λ (x : PlaceAt). x.users.seen) lefts k q is)
+  saw_users : (k : ℕ) (q : PlaceAt) → slice_get lefts k ≡ Some q → HasSeen user_coded.code user_place_of g k q.users.seen
+  saw_users k q is = seen_at _ _ _ _ _ _ _ _ _ e.of_users k (users_seen q) (get_map users_seen lefts k q is)
 
   abbrev users_lie : UsersLying w
   users_lie = lying _ _ _ _ _ _ _ _ _ e.of_users users_coded.inj p 16 has.users_made users_many some
@@ -182,6 +185,18 @@ module _ (w : World) (synced : SyncedAreMirrored w.disk.told w.disk.state) (adop
   one_order : (excused : Cause → Bool) (ss : Sessions w) → ComesTo (language s) (LimitBehind o.first) (λ q. IsTrue (excused q)) (opened w s o) (behind w s o h ss) → IsOneOrder w s o excused e.key lefts h ss
   one_order excused ss c = record { turns = c.0; played = c.1; moments = λ z m. was_then z m excused ss c.0 c.1 }
 
+  -- one order of both histories' entries
+  in_order : (order : List AnyEntry) × IsOrderOf h (entries_of g) 16 (used w s o p has.turnstiles jobs lefts sixteen has.each ran) order
+  in_order =
+      let one = has_one _ _ _ _ _ _ _ _ _ e.of_state in
+      let other = has_one _ _ _ _ _ _ _ _ _ e.of_users in
+      let knows = λ (k : ℕ) (q : PlaceAt) (is : slice_get lefts k ≡ Some q). view_at _ _ _ _ _ _ _ _ _ e.of_state k (table_seen q) (get_map table_seen lefts k q is) in
+      let users_know = λ (k : ℕ) (q : PlaceAt) (is : slice_get lefts k ≡ Some q). view_at _ _ _ _ _ _ _ _ _ e.of_users k (users_seen q) (get_map users_seen lefts k q is) in
+      let left = took w s o p has.turnstiles jobs lefts sixteen has.each ran in
+      let used_are = took_used w s o p has.turnstiles jobs lefts sixteen has.each ran in
+      ordered w e.key e.state e.users_key e.users lefts h g one other knows users_know left (used w s o p has.turnstiles jobs lefts sixteen has.each ran) used_are
+      (λ k lt. let x = took_then w s o p has.turnstiles jobs lefts sixteen has.each ran k lt in passes w e.key e.state e.users_key e.users lefts h g one other knows users_know left (used w s o p has.turnstiles jobs lefts sixteen has.each ran) used_are k (left k) x.left x.left_is x.table x.table_codes x.marks x.marks_codes x.takes)
+
   pub one_element : IsOneElement w s o p jobs lefts e.key e.state e.users
   one_element =
       let ss = sessions w s o p has.turnstiles jobs lefts sixteen has.each ran in
@@ -200,19 +215,21 @@ module _ (w : World) (synced : SyncedAreMirrored w.disk.told w.disk.state) (adop
         users_lying = users_lie;
         users_at_home = at_home _ _ _ _ _ _ _ _ _ e.of_users users_coded.inj p 16 has.users_made users_many some;
         users_stand = users_stand;
-        users_home = keeper_home w.disk.told w.disk.state users_since p g (nobody_keeps_it w s o p has.turnstiles jobs lefts sixteen has.each ran g users_seen users_few) users_lie.state.value users_stand;
+        users_home = keeper_home w.disk.told w.disk.state users_since p g (nobody_keeps_it w s o p has.turnstiles jobs lefts sixteen has.each ran g saw_users users_few) users_lie.state.value users_stand;
         sessions = ss;
         hearings = hearings w s o p has.turnstiles jobs lefts sixteen has.each ran;
         each = λ k lt. (served_then w s o p has.turnstiles jobs lefts sixteen has.each ran k lt).served;
         played = λ excused all. one_order excused ss (played_as_one w s o p has.turnstiles jobs lefts sixteen has.each ran h seen stands.legal few excused all);
         written_before = λ told excused all z m k lt v at. links_then z m excused all k lt v at told;
         used = used w s o p has.turnstiles jobs lefts sixteen has.each ran;
-        acted = acts_each w s o p has.turnstiles jobs lefts sixteen has.each ran g users_seen h seen;
-        together = λ excused all failing fails order is.
-            let c = played_in_order w s o p has.turnstiles jobs lefts sixteen has.each ran g users_seen h seen stands.legal few users_stand.legal users_few excused all failing fails order is in
+        acted = acts_each w s o p has.turnstiles jobs lefts sixteen has.each ran g saw_users h seen;
+        order = in_order.0;
+        ordered = in_order.1;
+        together = λ excused all failing fails.
+            let c = played_in_order w s o p has.turnstiles jobs lefts sixteen has.each ran g saw_users h seen stands.legal few users_stand.legal users_few excused all failing fails in_order.0 in_order.1 in
             (c, record { turns = c.turns; played = c.along.0; moments = λ z m. was_then z m excused ss c.turns c.along.0 }, refl);
-        heard = heard_as_one w s o p has.turnstiles jobs lefts sixteen has.each ran g users_seen users_stand.legal users_few;
-        heard_before = heard_then w s o p has.turnstiles jobs lefts sixteen has.each ran g users_seen users_stand.legal users_few;
+        heard = heard_as_one w s o p has.turnstiles jobs lefts sixteen has.each ran g saw_users users_stand.legal users_few;
+        heard_before = heard_then w s o p has.turnstiles jobs lefts sixteen has.each ran g saw_users users_stand.legal users_few;
       }
 
 pub headline : AreOwnBytes → (w : World) → SyncedAreMirrored w.disk.told w.disk.state → StandbysAreAdopted w.disk.told w.disk.state → StandbysStandSince w.disk.told w.disk.state → UsersStandSince w.disk.told w.disk.state → (handed : List AnyJob → Type 0) (site : SiteAt) (s : Contents) (o : Opening) (p : UsersOpening) (j : Jobs w handed site s o p) (e : IsEnd w o p j.places.turnstiles j.left.left.sessions.items j.left.left.workers.items)

@@ -32,6 +32,7 @@ use Rattle.xc_core.specs.declared.state.State.{State}
 use Rattle.xc_core.specs.Coding.{opening_coded}
 use Rattle.xc_core.specs.Seeing.{entry_coded, place_of}
 use Rattle.xc_core.specs.States.{LimitBehind, Opening, Stands, StandsFor, began, opening_of}
+use Rattle.craft_session.specs.Doing.{AnyEntry}
 use Rattle.craft_session.specs.Happenings.{Request}
 use Rattle.craft_session.specs.Meanings.{language}
 use Rattle.craft_session.specs.Places.{Turnstiles}
@@ -39,7 +40,7 @@ use Rattle.craft_session.specs.Seats.{PlaceAt}
 use Rattle.switch_laws.specs.Element.{ComesTo, Element, IsPlayed, Session, Turn}
 use Rattle.switch_laws.specs.Laws.{IsExcused, element}
 use Rattle.switch_laws.specs.Moments.{AreUsersThen, IsMoment}
-use Rattle.switch_laws.specs.Orders.{ActsAlong, AnyEntry, ArePlayedInOrder, IsOrderOf}
+use Rattle.switch_laws.specs.Orders.{ActsAlong, ArePlayedInOrder, IsOrderOf}
 use Rattle.switch_laws.specs.Users.{AreHeard, Hearing}
 use Rattle.dxc_jobs.specs.declared.frames_left.FramesLeft.{FramesLeft}
 use Rattle.dxc_jobs.specs.Begun.{AreRan}
@@ -48,15 +49,21 @@ use Rattle.serve_laws.specs.Copies.{IsBroughtHome, LeavesChanges}
 use Rattle.serve_laws.specs.Frames.{AreSeatsIn, CarriedOwn}
 use Rattle.serve_laws.specs.Keepers.{IsKeeperHome}
 use Rattle.serve_laws.specs.Jobs.{Frames, IsServedAt, Job, Jobs, World, links_of}
-use Rattle.serve_laws.specs.Passes.{IsRestOf}
+use Rattle.serve_laws.specs.Passes.{IsRestOf, Seen}
 use Rattle.serve_laws.specs.Timing.{MomentAt, WereWrittenThen}
 
 -- what the seats of places have seen
-abbrev pub seen_by : List PlaceAt → List (List Gv)
-seen_by = map (λ (p : PlaceAt). p.seat.seen)
+abbrev pub table_seen : PlaceAt → Seen
+table_seen p = record { codes = p.seat.seen; stamps = p.seat.stamps }
 
-abbrev pub users_seen_by : List PlaceAt → List (List Gv)
-users_seen_by = map (λ (p : PlaceAt). p.users.seen)
+abbrev pub users_seen : PlaceAt → Seen
+users_seen p = record { codes = p.users.seen; stamps = p.users.stamps }
+
+abbrev pub seen_by : List PlaceAt → List Seen
+seen_by = map table_seen
+
+abbrev pub users_seen_by : List PlaceAt → List Seen
+users_seen_by = map users_seen
 
 module _ (w : World) where
   abbrev pub Lying : Type 0
@@ -172,10 +179,12 @@ module _ (w : World) where
     -- of each place the entries of both that it used, as it took them
     pub used : ℕ → List AnyEntry
     pub acted : (k : ℕ) → k < 16 → ActsAlong (language s) k o.first.fold.table p (began o.due) (began o.due ++ history) users_history (used k) (sessions k)
-    -- Whatever one order the entries of both histories have in which each place's own come as it took them: one order of turns plays both, the element to the
-    -- table's history, and along the same turns the list of users to theirs, and passes each beginning of that order; it is an order as `played` has one.
+    -- the entries of both histories in one order, in which each place's own come as it took them
+    pub order : List AnyEntry
+    pub ordered : IsOrderOf history users_history 16 used order
+    -- One order of turns plays both in that order, the element to the table's history, and along the same turns the list of users to theirs, and passes each
+    -- beginning of it; it is an order as `played` has one.
     pub together : (excused : Cause → Bool) → AllByRecursion (IsExcused (λ q. IsTrue (excused q))) (began o.due ++ history) → (failing : Bool) → (1 ≤ failures users_history → IsTrue failing)
-        → (order : List AnyEntry) → IsOrderOf history users_history 16 used order
         → (x : ArePlayedInOrder (language s) (LimitBehind o.first) (λ q. IsTrue (excused q)) (opened s o) p (IsTrue failing) o.first.fold.table (began o.due) order history users_history sessions)
         × (y : IsOneOrder s o excused key lefts history sessions) × (y.turns ≡ x.turns)
     pub heard : (failing : Bool) → (1 ≤ failures users_history → IsTrue failing)

@@ -17,8 +17,9 @@ use user_laws::standbys_stand_for_users;
 /// allow and in which passes and workers know what the places and seats know that jobs left.
 ///
 /// One history of the table and one of the users stand behind them. One plain element, begun on what was opened, comes to the one by some order of turns, and
-/// wrote each link its bytes; one list of users comes to the other, and told what each session heard. Each file that a crash may leave of the journal, where
-/// the Provisioner is home, stands for that history's changes, or for one more. The fabric is hitless, and each frame was carried over its own connections.
+/// wrote each link its bytes; one list of users comes to the other, and told what each session heard. The entries of both have one order, in which each place's
+/// own come as it took them, and one order of turns plays both in it. Each file that a crash may leave of the journal, where the Provisioner is home, stands for
+/// that history's changes, or for one more. The fabric is hitless, and each frame was carried over its own connections.
 ///
 /// Each premise is what clauses give, or the kit's model. The jobs, what they did and left, and that their places are of one turnstile of each: `run` of
 /// `dxc_run`, by `places` of `open_places` and `left` of `run_all`. That a turnstile was made with a state of the opening, for so many passes: `turns` of

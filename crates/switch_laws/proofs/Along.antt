@@ -28,6 +28,7 @@ use Rattle.craft_session.specs.declared.ask.Ask.{Ask}
 use Rattle.craft_session.specs.declared.ask.Ask.TheVariants.{Refused, LogsIn, LogsOut, Completes, Allows, Inhibits, Lists, Shows, Restarts, Changes}
 use Rattle.craft_session.specs.declared.attending.Attending.{Attending}
 use Rattle.craft_session.specs.Asks.{Language, Reply}
+use Rattle.craft_session.specs.Doing.{AnyEntry, at_table, at_users, is_taking, is_used, of_table, of_users, used_of}
 use Rattle.craft_session.specs.Hearing.{Heard, Hears, Wanted, nothing, to_do, to_look, unasked}
 use Rattle.craft_session.specs.Notices.{AreReported, notices}
 use Rattle.craft_session.specs.Plain.{Excuse, Said}
@@ -36,7 +37,7 @@ use Rattle.craft_session.specs.Walks.{CutsAt, FrontOf, IsMend, IsUnused, Mends, 
 use Rattle.craft_session.proofs.Playing.{fits_last}
 use Rattle.switch_laws.specs.Element.{Element, Session, Standing, Turn, answered, answers, comes, fresh, halted, mends, opens, ready, reported, reports, rested, rests, stops, stops_at_users, unanswered, call, answer, rest as rest_turn, look as look_turn, mend as mend_turn, stop as stop_turn, stop_at_users as users_turn}
 use Rattle.switch_laws.specs.Laws.{doubted_by_entry, doubted_in, standing_by_entry, standing_in, element}
-use Rattle.switch_laws.specs.Orders.{ActsAlong, AnyEntry, ArePlayedAlong, ArePlayedInOrder, IsOrderOf, acts_at_table, acts_at_users, at_table, at_users, caller_acts, is_taking, is_used, looks_on, nobody_acts, nothing_came, of_table, of_users, stopped_before_users, stopped_short, table_goes_on, used_of, users_go_on}
+use Rattle.switch_laws.specs.Orders.{ActsAlong, ArePlayedAlong, ArePlayedInOrder, IsOrderOf, acts_at_table, acts_at_users, caller_acts, looks_on, nobody_acts, nothing_came, stopped_before_users, stopped_short, table_goes_on, users_go_on}
 use Rattle.switch_laws.specs.Moments.{AreBegun, IsBegun}
 use Rattle.switch_laws.specs.Placed.{placed}
 use Rattle.switch_laws.proofs.Doubting.{doubted_more}
@@ -84,10 +85,10 @@ used_tells p (inr e) = elim (eqb_tells e.place p) [
   | inr off ↦ inr (off.0, inl off.1)
 ]
 
-own_used : (p : ℕ) (x : AnyEntry) → place_in x ≡ p → (Idles x → ⊥) → is_used p x ≡ true
+pub own_used : (p : ℕ) (x : AnyEntry) → place_in x ≡ p → (Idles x → ⊥) → is_used p x ≡ true
 own_used p x here does = elim (used_tells p x) [ inl own ↦ own.0 | inr other ↦ elim other.1 [ inl off ↦ absurd (off here) | inr idle ↦ absurd (does idle) ] ]
 
-not_used : (p : ℕ) (x : AnyEntry) → (place_in x ≢ p) ⊎ Idles x → is_used p x ≡ false
+pub not_used : (p : ℕ) (x : AnyEntry) → (place_in x ≢ p) ⊎ Idles x → is_used p x ≡ false
 not_used p x (inl off) = elim (used_tells p x) [ inl own ↦ absurd (off own.2) | inr other ↦ other.0 ]
 not_used p x (inr idle) = elim (used_tells p x) [ inl own ↦ absurd (own.1 idle) | inr other ↦ other.0 ]
 
@@ -97,7 +98,7 @@ one_used p x w is = ap (λ (b : Bool). w ++ cond b (x ∷ []) []) (sym is)
 none_used : (p : ℕ) (x : AnyEntry) (w : List AnyEntry) → is_used p x ≡ false → w ≡ w ++ filter (is_used p) (x ∷ [])
 none_used p x w is = sym (append-nil w) ∙ ap (λ (b : Bool). w ++ cond b (x ∷ []) []) (sym is)
 
-of_table_append : (es fs : List Entry) → of_table (es ++ fs) ≡ of_table es ++ of_table fs
+pub of_table_append : (es fs : List Entry) → of_table (es ++ fs) ≡ of_table es ++ of_table fs
 of_table_append [] fs = refl
 of_table_append (e ∷ es) fs = ap (λ (l : List AnyEntry). let x : AnyEntry = inl e in x ∷ l) (of_table_append es fs)
 

@@ -1,7 +1,7 @@
 -- What a place did along two histories, laid along any order of both in which its own entries come as it took them.
 use Rattle.std.proofs.Common.{◌≡◌, ◌≢◌, ℕ, zero, suc, ◌<◌, ◌≤◌, ◌+◌, ◌⊎◌, inl, inr, Bool, true, false, cond, List, [], ◌∷◌, ◌++◌, length, length-append, filter, append_assoc, append-nil, refl, sym, ◌∙◌, ap, subst, arith}
 use Rattle.std.proofs.lemmas.List.Elements.{filter-append}
-use Rattle.switch_laws.specs.Orders.{at_table, at_users}
+use Rattle.craft_session.specs.Doing.{at_table, at_users}
 use Rattle.switch_laws.specs.Placed.{placed}
 use Rattle.switch_laws.proofs.Merging.{Track, goes_by, goes_free, goes_on, starts, snoc_once}
 

@@ -14,7 +14,7 @@ use Rattle.craft_session.specs.Plain.{Excuse, Limit, Said}
 use Rattle.craft_session.specs.declared.attending.Attending.{Attending}
 use Rattle.craft_session.specs.Walks.{attending_after}
 use Rattle.switch_laws.specs.Element.{Element, IsPlayed, Session, Turn, answer, answered, answers, call, comes, fresh, look, mend, mends, opens, reported, reports, rest, rested, rests, stop, stop_at_users, stops, stops_at_users, unanswered}
-use Rattle.switch_laws.specs.Moments.{AreBegun, IsBegun, IsMadeNext, IsMoment, changed}
+use Rattle.switch_laws.specs.Moments.{AreBegun, IsBegun, IsMoment, changed}
 use Rattle.switch_laws.specs.Placed.{placed}
 use Rattle.switch_laws.proofs.Placing.{placed_else, placed_here}
 

@@ -1,79 +1,56 @@
 -- One order for the table and the users: what a place did along both histories, and the plain element along whose turns the list of users goes.
-use Rattle.std.specs.Prelude.{◌≡◌, ◌≢◌, ◌≤◌, ◌<◌, ◌⊎◌, ◌==◌, ◌&&◌, ℕ, Bool, true, false, not, List, [], ◌∷◌, ◌++◌, length, filter, Some, IsTrue}
+use Rattle.std.specs.Prelude.{◌≡◌, ◌≢◌, ◌≤◌, ◌<◌, ◌⊎◌, ℕ, Bool, true, false, List, [], ◌∷◌, ◌++◌, length, filter, Some, IsTrue}
 use Rattle.std.specs.List.{AllByRecursion}
 use mathlib.Core.Logic.{inl, inr}
+use Rattle.turnstile.specs.Orders.{TakesTurns}
 use Rattle.dxc_outside.specs.declared.clock.Moment.{Moment}
 use Rattle.dxc_model.specs.declared.cause.Cause.{Cause}
 use Rattle.dxc_model.specs.declared.op.Op.{Op}
 use Rattle.dxc_model.specs.declared.op.Op.TheVariants.{Look}
-use Rattle.dxc_model.specs.declared.entry.Outcome.{Outcome}
-use Rattle.dxc_model.specs.declared.entry.Outcome.TheVariants.{Done, Denied, Failed, Answered, Restarted, Cut, Taken}
+use Rattle.dxc_model.specs.declared.entry.Outcome.TheVariants.{Answered, Cut}
 use Rattle.dxc_model.specs.declared.entry.Entry.{Entry}
-use Rattle.dxc_model.specs.declared.user.SessionUser.{SessionUser}
 use Rattle.dxc_model.specs.Tables.{Board}
 use Rattle.dxc_model.specs.Histories.{IsLegal, changes_of}
 use Rattle.shelf_file.specs.Contents.{Contents}
 use Rattle.user_admin.specs.declared.op.UserEntry.{UserEntry}
+use Rattle.user_admin.specs.declared.op.UserMark.{UserMark}
+use Rattle.user_admin.specs.declared.op.UserMark.TheVariants.{Entered, Took}
 use Rattle.tl1_users.specs.declared.op.UserOp.{UserOp}
 use Rattle.user_admin.specs.Histories.{IsLegal as AreLegal, Opening as UsersOpening, failures, users_after}
+use Rattle.user_admin.specs.Marks.{entries_of, entry_in}
+use Rattle.user_admin.specs.States.{entry as user_entry}
 use Rattle.user_admin.specs.Users.{Users}
 use Rattle.user_admin.specs.Verdicts.{IsChanging}
 use Rattle.xc_core.specs.Seeing.{entry}
 use Rattle.xc_core.specs.States.{LimitBehind, Opening, rules_of}
 use Rattle.craft_session.specs.Asks.{Language, Reply}
-use Rattle.craft_session.specs.Consulting.{Consults}
-use Rattle.craft_session.specs.Happenings.{Request, unit}
+use Rattle.craft_session.specs.Doing.{AnyEntry, CutsOn, Does, Doing, HearsOn, at_table, at_users, cut_on, heard_on, is_used, of_users, used_of}
+use Rattle.craft_session.specs.Happenings.{Request}
 use Rattle.craft_session.specs.Hearing.{Hears, nothing, to_do, unasked}
 use Rattle.craft_session.specs.Meanings.{language}
 use Rattle.craft_session.specs.Notices.{AreReported, notices}
 use Rattle.craft_session.specs.Plain.{Excuse, Limit}
 use Rattle.craft_session.specs.PlainUsers.{HearsOf}
-use Rattle.craft_session.specs.Runs.{Run, Walk}
+use Rattle.craft_session.specs.Runs.{Walk}
 use Rattle.craft_session.specs.Walks.{CutsAt, FrontOf, IsUnused, Serves, attending_after}
 use Rattle.switch_laws.specs.Element.{Element, IsPlayed, Session, Turn, answered, answers, comes, fresh, mends, opens, reported, reports, rested, rests, stops, stops_at_users, unanswered}
 use Rattle.switch_laws.specs.Laws.{IsExcused, element, session_in}
 use Rattle.switch_laws.specs.Moments.{AreBegun, IsBegun}
 
--- an entry of the table's history, or one of the users'
-abbrev pub AnyEntry : Type 0
-AnyEntry = Entry ⊎ UserEntry
+-- what a turn left at the table, or with the users
+abbrev pub AnyMark : Type 0
+AnyMark = Entry ⊎ UserMark
 
--- those of the table among the entries of both, and those of the users
-abbrev pub at_table : {A B : Type 0} → List (A ⊎ B) → List A
-at_table [] = []
-at_table (inl e ∷ m) = e ∷ at_table m
-at_table (inr e ∷ m) = at_table m
+-- a place uses of it what it uses of the entries among it
+abbrev pub is_used_mark : ℕ → AnyMark → Bool
+is_used_mark place (inl e) = is_used place (inl e)
+is_used_mark place (inr (Entered n op out)) = is_used place (inr (user_entry n op.value out))
+is_used_mark place (inr (Took n)) = false
 
-abbrev pub at_users : {A B : Type 0} → List (A ⊎ B) → List B
-at_users [] = []
-at_users (inl e ∷ m) = at_users m
-at_users (inr e ∷ m) = e ∷ at_users m
-
-abbrev pub of_table : List Entry → List AnyEntry
-of_table [] = []
-of_table (e ∷ es) = inl e ∷ of_table es
-
-abbrev pub of_users : List UserEntry → List AnyEntry
-of_users [] = []
-of_users (e ∷ es) = inr e ∷ of_users es
-
--- an entry at which a place took the Provisioner
-abbrev pub is_taking : Outcome → Bool
-is_taking (Done c) = false
-is_taking (Denied q) = false
-is_taking (Failed q) = false
-is_taking Answered = false
-is_taking (Restarted c) = false
-is_taking Cut = false
-is_taking Taken = true
-
--- whether a place uses an entry: each of its own but such a one
-abbrev pub is_used : ℕ → AnyEntry → Bool
-is_used place (inl e) = (e.place == place) && not (is_taking e.outcome)
-is_used place (inr e) = e.place == place
-
-abbrev pub used_of : ℕ → List Entry → List AnyEntry
-used_of place es = filter (is_used place) (of_table es)
+abbrev pub any_entries : List AnyMark → List AnyEntry
+any_entries [] = []
+any_entries (inl e ∷ m) = inl e ∷ any_entries m
+any_entries (inr x ∷ m) = of_users (entry_in x) ++ any_entries m
 
 -- What the sessions of a place did along both histories, the newest first, and the entries that they used, as they took them: unit by unit, and
 -- within a unit in the order of its history. Who asks the users takes no entry of the table.
@@ -183,29 +160,51 @@ ArePlayedInOneOrder = (l : Language Request Moment) (excused : Cause → Bool) (
     → IsOrderOf h g places used order
     → ArePlayedInOrder l (LimitBehind o.first) (λ q. IsTrue (excused q)) (element o.first.fold.table past (λ k. [])) p (IsTrue failing) o.first.fold.table past order h g sessions
 
--- What a session did, as its contract tells it, goes on with what its place did along both histories: its run over the table's, and what it heard along
--- the users'.
-abbrev pub RunsAreActs : Type 0
-RunsAreActs = (s : Contents) (place : ℕ) (t : Board) (o : UsersOpening) (past h : List Entry) (g : List UserEntry) (used : List AnyEntry) (ss : List (Session Request Moment))
-    → ActsAlong (language s) place t o past h g used ss
-    → (w : Walk Request Moment) → Run (language s) place t h w
-    → (seen : List UserEntry) (user : SessionUser) → Consults (language s) place o g w.happenings seen user
-    → (now : List AnyEntry) × ActsAlong (language s) place t o past w.history seen now (session_in w ∷ ss)
+-- By the stamps of what its seats have seen the place took its turns so: those entries that it used, in this order.
+pub record TookAlong (place : ℕ) (past h : List Entry) (x : Doing) : Type 0 where
+  -- what turns left at the table since that past
+  pub left : List Entry
+  pub whole : h ≡ past ++ left
+  pub took : List AnyMark
+  pub takes : TakesTurns (is_used_mark place) place x.stamps left x.users_stamps x.marks took
+  pub used_are : any_entries took ≡ x.used
 
--- so it is where a stop cut the last unit at the table
+-- where these had been used before
+abbrev pub after : List AnyEntry → Doing → Doing
+after earlier x = record x { used = earlier ++ x.used }
+
+module _ {U M : Type 0} (l : Language U M) (place : ℕ) (t : Board) (o : UsersOpening) (past : List Entry) where
+  -- what the sessions of the place did along both histories, and that it took its turns so
+  pub record GoneAlong (h : List Entry) (x : Doing) (ss : List (Session U M)) : Type 0 where
+    pub acts : ActsAlong l place t o past h (entries_of x.marks) x.used ss
+    pub turns : TookAlong place past h x
+
+  module _ (earlier : List AnyEntry) where
+    -- What a session does goes on with what its place did.
+    abbrev pub GoesOnBy : Type 0
+    GoesOnBy = (h : List Entry) (first : Doing) (ss : List (Session U M)) → GoneAlong h (after earlier first) ss
+        → (w : Walk U M) (x : Doing) → Does l place t o h first w x → GoneAlong w.history (after earlier x) (session_in w ∷ ss)
+
+    -- so it is where a stop cut the last unit at the table
+    abbrev pub IsCutAfter : Type 0
+    IsCutAfter = (h : List Entry) (first : Doing) (ss : List (Session U M)) → GoneAlong h (after earlier first) ss
+        → (w : Walk U M) (x : Doing) → Does l place t o h first w x → w.due ≡ false
+        → (u : U) (a : HearsOn o place x (l.wants w.attending.user u) (l.heard u)) (b : CutsOn place w.history ((heard_on x a).users_stamps) (l.asks w.attending.user u))
+        → GoneAlong ((w.history ++ b.front) ++ entry place b.op Cut ∷ []) (after earlier (cut_on x a b)) (unanswered u (session_in w) ∷ ss)
+
+    -- and where one came before the users were changed
+    abbrev pub IsCutBefore : Type 0
+    IsCutBefore = (h : List Entry) (first : Doing) (ss : List (Session U M)) → GoneAlong h (after earlier first) ss
+        → (w : Walk U M) (x : Doing) → Does l place t o h first w x → w.due ≡ false
+        → (u : U) (op : UserOp) → l.wants w.attending.user u ≡ to_do op → IsChanging op
+        → GoneAlong w.history (after earlier x) (unanswered u (session_in w) ∷ ss)
+
+-- so it is of the sessions of a controller
+abbrev pub DoesAreActs : Type 0
+DoesAreActs = (s : Contents) (place : ℕ) (t : Board) (o : UsersOpening) (past : List Entry) (earlier : List AnyEntry) → GoesOnBy (language s) place t o past earlier
+
 abbrev pub CutsAreActs : Type 0
-CutsAreActs = (s : Contents) (place : ℕ) (t : Board) (o : UsersOpening) (past h : List Entry) (g : List UserEntry) (used : List AnyEntry) (ss : List (Session Request Moment))
-    → ActsAlong (language s) place t o past h g used ss
-    → (w : Walk Request Moment) → Run (language s) place t h w → w.due ≡ false
-    → (u : Request) (seen : List UserEntry) (user : SessionUser) → Consults (language s) place o g (w.happenings ++ unit u ∷ []) seen user
-    → (front : List Entry) (op : Op) → FrontOf place w.history ((language s).asks w.attending.user u) front → CutsAt (w.history ++ front) ((language s).asks w.attending.user u) op
-    → (now : List AnyEntry) × ActsAlong (language s) place t o past ((w.history ++ front) ++ entry place op Cut ∷ []) seen now (unanswered u (session_in w) ∷ ss)
+CutsAreActs = (s : Contents) (place : ℕ) (t : Board) (o : UsersOpening) (past : List Entry) (earlier : List AnyEntry) → IsCutAfter (language s) place t o past earlier
 
--- and where one came before the users were changed
 abbrev pub CutsBeforeAreActs : Type 0
-CutsBeforeAreActs = (s : Contents) (place : ℕ) (t : Board) (o : UsersOpening) (past h : List Entry) (g : List UserEntry) (used : List AnyEntry) (ss : List (Session Request Moment))
-    → ActsAlong (language s) place t o past h g used ss
-    → (w : Walk Request Moment) → Run (language s) place t h w → w.due ≡ false
-    → (u : Request) (seen : List UserEntry) (user : SessionUser) → Consults (language s) place o g w.happenings seen user
-    → (op : UserOp) → (language s).wants w.attending.user u ≡ to_do op → IsChanging op
-    → (now : List AnyEntry) × ActsAlong (language s) place t o past w.history seen now (unanswered u (session_in w) ∷ ss)
+CutsBeforeAreActs = (s : Contents) (place : ℕ) (t : Board) (o : UsersOpening) (past : List Entry) (earlier : List AnyEntry) → IsCutBefore (language s) place t o past earlier

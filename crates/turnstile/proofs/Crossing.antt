@@ -12,6 +12,10 @@ use Rattle.std.specs.contracts.alloc.Global as Global
 use Rattle.std.specs.contracts.impls.GlobalAllocator.TheImpl as allocator
 use Rattle.atomic_table.proofs.owned.Table.TheSendSync as table
 use Rattle.turnstile.specs.contracts.board.Held as Held
+use Rattle.atomic_table.specs.contracts.badge.Badge as Badge
+use Rattle.atomic_table.proofs.badge.Badge.TheSendSync as badge
+use Rattle.turnstile.specs.contracts.Pass as Pass
+use Rattle.turnstile.specs.contracts.Pass.TheInside as InPass
 use Rattle.std.proofs.sync.atomic.AtomicU64.TheSendSync as word
 use Rattle.turnstile.specs.contracts.line.Line as Line
 use Rattle.turnstile.specs.contracts.Turnstile as Turnstile
@@ -33,6 +37,12 @@ line_send = let h = word.the_send in search Send.sendable depth 20
 line_sync : Send.IsSync (Line.the_field).row
 line_sync = let h = word.the_sync in search Send.sendable depth 20
 
+nothing_owned : (T : RattleType) → Send.IsSend (Snapshot.the_field T).row
+nothing_owned T = record { owned = λ d vs. ((λ vss. (tt, ((λ uss. (tt, tt)), tt))), tt); leaving = λ k f vs. tt }
+
+pub pass_send : Send.IsSend Pass.the_row
+pass_send = Send.view_send InPass.the_row _ _ _ _ (Send.recorded_send InPass.the_field.row _ _ InPass.the_type.to_one (Send.struct_send (Declared.shape InPass.the_type) (Send.plain_send _ _ _ _ _, (badge.the_send View.the_row, (nothing_owned (Badge.the_row View.the_row), tt)))))
+
 module _ (S E : RattleType) (s : Send.IsSend S) where
   abbrev state : RattleType
   state = Box.the_row S Global.the_row allocator.ghosts
@@ -40,11 +50,8 @@ module _ (S E : RattleType) (s : Send.IsSend S) where
   state_send : Send.IsSend state
   state_send = boxed.the_send S Global.the_row allocator.ghosts s global.the_send heap.the_frees
 
-  nothing_owned : Send.IsSend (Snapshot.the_field (Option.the_row E)).row
-  nothing_owned = record { owned = λ d vs. ((λ vss. (tt, ((λ uss. (tt, tt)), tt))), tt); leaving = λ k f vs. tt }
-
   held_send : Send.IsSend (Held.the_row state E)
-  held_send = Send.recorded_send (Held.the_field state E).row _ _ (Held.the_type state E).to_one (Send.struct_send (Declared.shape (Held.the_type state E)) (state_send, (nothing_owned, tt)))
+  held_send = Send.recorded_send (Held.the_field state E).row _ _ (Held.the_type state E).to_one (Send.struct_send (Declared.shape (Held.the_type state E)) (state_send, (nothing_owned (Option.the_row E), (nothing_owned (Snapshot.the_row (Badge.the_row View.the_row)), tt))))
 
   slot_send : Send.IsSend (Option.the_row (Held.the_row state E))
   slot_send = let h = held_send in search Send.sendable depth 20

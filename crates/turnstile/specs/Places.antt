@@ -1,7 +1,7 @@
 -- What a place knows of the history of its turnstile and what a turn of it adds, for any state and any entries, by what it is to have seen a history.
-use Rattle.std.specs.Prelude.{◌≡◌, ◌≢◌, ◌<◌, ℕ, true, List, [], ◌∷◌, ◌++◌}
+use Rattle.std.specs.Prelude.{◌≡◌, ◌≢◌, ◌<◌, ℕ, true, List, [], ◌∷◌, ◌++◌, length}
 use base.Stored.{Gv}
-use Rattle.turnstile.specs.Passing.{TurnstileView, Token}
+use Rattle.turnstile.specs.Passing.{GoesOn, TurnstileView, Token}
 use Rattle.turnstile.specs.Turning.{Each}
 
 module _ {E : Type 0} (codes : List E → List Gv) (place : E → ℕ) where
@@ -9,9 +9,15 @@ module _ {E : Type 0} (codes : List E → List Gv) (place : E → ℕ) where
   abbrev pub AreNumberedBy : ℕ → List Gv → Type 0
   AreNumberedBy passes seen = (h : List E) → seen ≡ codes h → Each (λ e. place e < passes) h
 
-  -- the pass is one of the turnstile's, no turn of it is out, and what it has seen are entries of the turnstile's passes
+  -- the pass is one of the turnstile's, no turn of it is out, and what it has seen are entries of the turnstile's passes, each with a stamp
   abbrev pub HasPassBy : {X : Type 0} → TurnstileView X → Token → Type 0
-  HasPassBy t p = (p.free ≡ true) × (p.id ≡ t.id) × (p.number < t.passes) × AreNumberedBy t.passes p.seen
+  HasPassBy t p = (p.free ≡ true) × (p.id ≡ t.id) × (p.number < t.passes) × AreNumberedBy t.passes p.seen × (length p.stamps ≡ length p.seen)
+
+  -- after turns of it the pass is so, and it is the same pass at a later time, which has seen what it had seen, and maybe more
+  pub record KeepsPassBy {X : Type 0} (t : TurnstileView X) (old new : Token) : Type 0 where
+    pub has : HasPassBy t new
+    pub goes : GoesOn old new
+    pub sees : (more : List Gv) × (new.seen ≡ old.seen ++ more)
 
 module _ {O E : Type 0} (Saw : O → List Gv → List E → Type 0) (place : E → ℕ) where
   -- after the history stand others' entries, and then this one

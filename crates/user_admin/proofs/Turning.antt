@@ -4,7 +4,6 @@ use Rattle.std.proofs.lemmas.List.{map-append}
 use Rattle.std.specs.Prelude.{slice_get}
 use Rattle.std.specs.declared.snapshot.Snapshot.{Snapshot}
 use base.Stored.{Gv}
-use Rattle.turnstile.specs.Passing.{TurnstileView, Token}
 use Rattle.turnstile.specs.Turning.{Each, Found}
 use Rattle.turnstile.proofs.Lists.{each_append, map_once}
 use Rattle.dxc_causes.specs.Stops.{RoseOnlyFor}
@@ -29,13 +28,9 @@ use Rattle.user_admin.specs.Marks.{entered, entries_of, entry_in, mark_for, plac
 use Rattle.user_admin.specs.Shared.{HasKeeper, PlannedIs, SharedFor, SharedStands, opening_at}
 use Rattle.user_admin.specs.declared.occupants.Occupant.{Occupant}
 use Rattle.user_admin.specs.Occupants.{is_out, occupants_after}
-use Rattle.user_admin.specs.Turns.{AreNumbered, HasPass, IsHistory, IsTaken, LookedAt, Saw, TakenIs, TookIs, TriedIs, Turned, TurnedBack, codes}
+use Rattle.user_admin.specs.Turns.{AreNumbered, IsHistory, IsTaken, LookedAt, Saw, TakenIs, TookIs, TriedIs, Turned, TurnedBack, codes}
 use Rattle.journal_core.proofs.HeaderSteps.{never}
 use Rattle.user_admin.proofs.Marking.{each_entries, entries_append, entries_one, entries_took, no_mark, others_entries, same_mark}
-
--- a pass that comes back from a turn
-pub pass_back : {X : Type 0} (t : TurnstileView X) (p q : Token) → HasPass t p → q.free ≡ true → q.id ≡ t.id → q.number ≡ p.number → AreNumbered t.passes q.seen → HasPass t q × (q.number ≡ p.number)
-pass_back t p q pass free id number numbered = ((free, id, subst (λ (n : ℕ). n < t.passes) (sym number) pass.2, numbered), number)
 
 pub same_marks : (seen : List Gv) (ms ns : List UserMark) → seen ≡ codes ms → seen ≡ codes ns → ms ≡ ns
 same_marks seen ms ns first then = map_once mark_coded.code mark_coded.inj ms ns (sym first ∙ then)
@@ -179,11 +174,6 @@ module _ {D : Type 0} (told : Type 0) (state : D → DiskState) where
           turned_back_at o own saw.marks x in_turn t h saw.entries_are x then_seen t.stands seen_is,
           is ∙ ap (λ (os : List Occupant). is_out (slice_get os own)) (t.stands.occupants ∙ ap occupants_after (entries_found o own saw.marks x in_turn t h saw.entries_are)),
         )
-
-    -- the pass after it
-    pub ends_pass : {X : Type 0} (t : TurnstileView X) (p q : Token) (m : UserMark) → passes ≡ t.passes → own ≡ p.number → HasPass t p → (q.free ≡ true) × (q.id ≡ t.id) × (q.number ≡ p.number) → place_of m ≡ own → q.seen ≡ in_turn ++ mark_coded.code m ∷ [] → HasPass t q × (q.number ≡ p.number)
-    ends_pass t p q m all place pass back number seen_is =
-        pass_back t p q pass back.0 back.1 back.2 (subst (λ (k : ℕ). AreNumbered k q.seen) all (numbered_own o by passes seen in_turn x f own m q.seen number (subst (λ (k : ℕ). own < k) (sym all) (subst (λ (k : ℕ). k < t.passes) (sym place) pass.2)) seen_is))
 
 -- others' entries, and then others' entries again
 pub back_behind : (o : Opening) (own : ℕ) (h : List UserEntry) (mid then_seen : List Gv) → TurnedBack o own h mid → ((g : List UserEntry) → Saw o mid g → TurnedBack o own g then_seen) → TurnedBack o own h then_seen

@@ -2,7 +2,7 @@
 use Rattle.std.specs.Prelude.{◌≡◌, ◌≢◌, ◌<◌, ℕ, Bool, true, List, [], ◌∷◌, ◌++◌, map, Option, Some, None, Result, Ok, Err, MatchResult}
 use base.Stored.{Gv}
 use Rattle.turnstile.specs.Passing.{TurnstileView, Token}
-use Rattle.turnstile.specs.Places.{AfterBy, AreNumberedBy, HasPassBy, HasSeenBy, TurnedBackBy, TurnedBy, ViewOf, view_of}
+use Rattle.turnstile.specs.Places.{AfterBy, AreNumberedBy, HasPassBy, HasSeenBy, KeepsPassBy, TurnedBackBy, TurnedBy, ViewOf, view_of}
 use Rattle.turnstile.specs.Turning.{Each}
 use Rattle.arrayvec.specs.ArrayVec.{ArrayVec}
 use Rattle.dxc_disk.specs.Disks.{DiskState}
@@ -62,6 +62,10 @@ AreNumbered = AreNumberedBy codes place_of
 -- the pass is one of the turnstile's, no turn of it is out, and what it has seen are entries of the turnstile's passes
 abbrev pub HasPass : {X : Type 0} → TurnstileView X → Token → Type 0
 HasPass = HasPassBy codes place_of
+
+-- so it is after turns of it, and it is the same pass at a later time
+abbrev pub KeepsPass : {X : Type 0} → TurnstileView X → Token → Token → Type 0
+KeepsPass = KeepsPassBy codes place_of
 
 -- the change was made, or the operation denied, or the gate stopped before anything was done
 abbrev pub TookIs : Opening → ℕ → List UserEntry → UserOp → List Gv → Result UserTook Stopped → Type 0

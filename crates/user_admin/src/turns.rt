@@ -5,7 +5,7 @@ ghost use Rattle.user_admin.specs.Openings.{asked_at_turn};
 ghost use Rattle.tl1_users.specs.Commands.{NamesUid};
 ghost use Rattle.user_admin.specs.Resting.{IsAtRest, RestsUnlessTaken};
 ghost use Rattle.user_admin.specs.Shared.{asked_by, asked_in};
-ghost use Rattle.user_admin.specs.Turns.{After, Brings, HasPass, HasSeen, IsKept, LogsIn, Looks, OutUpon, OutAfter, PutsOut, Reads, Takes, Took, Tries};
+ghost use Rattle.user_admin.specs.Turns.{After, Brings, HasPass, HasSeen, IsKept, KeepsPass, LogsIn, Looks, OutAfter, OutUpon, PutsOut, Reads, Takes, Took, Tries};
 ghost use Rattle.user_admin.specs.Occupants.{login_op as entered_as};
 ghost use Rattle.user_admin.specs.Verdicts.{IsChanging};
 
@@ -42,7 +42,7 @@ pub fn change<D: Disk + Drop, G: Gate, R: Wait>(
     requires changing { IsChanging op }
     requires named { NamesUid op }
     requires seen { HasSeen D.Disk turns.now pass.old }
-    ensures pass { HasPass turns.now pass.new × (pass.new.number ≡ pass.old.number) }
+    ensures pass { KeepsPass turns.now pass.old pass.new }
     ensures rests { IsAtRest pass.old → IsAtRest pass.new }
     ensures took { After D.Disk turns.now pass.old (Took op pass.new result) }
     ensures stopped { RoseOnlyFor (G.stops gate.old) (G.stops gate.new) (IsErr result) }
@@ -73,7 +73,7 @@ fn change_in_line<D: Disk + Drop, G: Gate, R: Wait>(
     requires changing { IsChanging op.now }
     requires named { NamesUid op.now }
     requires seen { HasSeen D.Disk turns.now pass.old }
-    ensures pass { HasPass turns.now pass.new × (pass.new.number ≡ pass.old.number) }
+    ensures pass { KeepsPass turns.now pass.old pass.new }
     ensures rests { IsAtRest pass.old → IsAtRest pass.new }
     ensures took { After D.Disk turns.now pass.old (Took op.now pass.new result) }
     ensures stopped { RoseOnlyFor (G.stops gate.old) (G.stops gate.new) (IsErr result) }
@@ -102,7 +102,7 @@ fn try_change<D: Disk + Drop, G: Gate, R: Wait>(
     requires changing { IsChanging op.now }
     requires named { NamesUid op.now }
     requires seen { HasSeen D.Disk turns.now pass.old }
-    ensures pass { HasPass turns.now pass.new × (pass.new.number ≡ pass.old.number) }
+    ensures pass { KeepsPass turns.now pass.old pass.new }
     ensures rests { IsAtRest pass.old → IsAtRest pass.new }
     ensures took { After D.Disk turns.now pass.old (Tries op.now pass.new result) }
     ensures stopped { RoseOnlyFor (G.stops gate.old) (G.stops gate.new) (IsErr result) }
@@ -139,7 +139,7 @@ fn take<D: Disk + Drop, G: Gate, R: Wait>(
     requires pass { HasPass turns.now pass.old }
     requires changing { IsChanging op.now }
     requires seen { HasSeen D.Disk turns.now pass.old }
-    ensures pass { HasPass turns.now pass.new × (pass.new.number ≡ pass.old.number) }
+    ensures pass { KeepsPass turns.now pass.old pass.new }
     ensures rests { IsAtRest pass.old → RestsUnlessTaken result pass.new }
     ensures took { After D.Disk turns.now pass.old (Takes D.Disk op.now pass.new result) }
     ensures stopped { RoseOnlyFor (G.stops gate.old) (G.stops gate.new) (IsErr result) }
@@ -170,7 +170,7 @@ fn bring<D: Disk + Drop, R: Wait>(
 )
     requires pass { HasPass turns.now pass.old }
     requires kept { OutUpon D.Disk turns.now pass.old (IsKept D.Disk op.now outcome keeper.value) }
-    ensures pass { HasPass turns.now pass.new × (pass.new.number ≡ pass.old.number) }
+    ensures pass { KeepsPass turns.now pass.old pass.new }
     ensures rests { IsAtRest pass.new }
     ensures brought { OutAfter D.Disk turns.now pass.old (Brings op.now outcome pass.new) }
 {
@@ -192,7 +192,7 @@ pub fn login<D: Disk + Drop, R: Wait>(
 ) -> Option<Class>
     requires pass { HasPass turns.now pass.old }
     requires seen { HasSeen D.Disk turns.now pass.old }
-    ensures pass { HasPass turns.now pass.new × (pass.new.number ≡ pass.old.number) }
+    ensures pass { KeepsPass turns.now pass.old pass.new }
     ensures rests { IsAtRest pass.old → IsAtRest pass.new }
     ensures logged { After D.Disk turns.now pass.old (LogsIn (record
         { vacant = vacant; uid = uid; pid = pid.now }) pass.new result) }
@@ -228,7 +228,7 @@ pub fn cancel<D: Disk + Drop, R: Wait>(
 )
     requires pass { HasPass turns.now pass.old }
     requires seen { HasSeen D.Disk turns.now pass.old }
-    ensures pass { HasPass turns.now pass.new × (pass.new.number ≡ pass.old.number) }
+    ensures pass { KeepsPass turns.now pass.old pass.new }
     ensures rests { IsAtRest pass.old → IsAtRest pass.new }
     ensures cancelled { After D.Disk turns.now pass.old (PutsOut uid pass.new) }
 {
@@ -249,7 +249,7 @@ pub fn is_cancelled<D: Disk + Drop, R: Wait>(
 ) -> bool
     requires pass { HasPass turns.now pass.old }
     requires seen { HasSeen D.Disk turns.now pass.old }
-    ensures pass { HasPass turns.now pass.new × (pass.new.number ≡ pass.old.number) }
+    ensures pass { KeepsPass turns.now pass.old pass.new }
     ensures rests { IsAtRest pass.old → IsAtRest pass.new }
     ensures looked { After D.Disk turns.now pass.old (Looks pass.new result) }
 {
@@ -268,7 +268,7 @@ pub fn rows<D: Disk + Drop, R: Wait>(
 ) -> Result<UserRows, Cause>
     requires pass { HasPass turns.now pass.old }
     requires seen { HasSeen D.Disk turns.now pass.old }
-    ensures pass { HasPass turns.now pass.new × (pass.new.number ≡ pass.old.number) }
+    ensures pass { KeepsPass turns.now pass.old pass.new }
     ensures rests { IsAtRest pass.old → IsAtRest pass.new }
     ensures rows { After D.Disk turns.now pass.old (Reads which pass.new result) }
 {

@@ -1,9 +1,8 @@
 -- What a place sees in a turn, and after it.
-use Rattle.std.proofs.Common.{◌≡◌, ◌≢◌, ◌≤◌, ◌<◌, ℕ, arith, true, cond, inl, inr, length, length-append, List, [], ◌∷◌, ◌++◌, append-nil, Option, Some, None, refl, sym, ◌∙◌, ap, subst, append_assoc}
+use Rattle.std.proofs.Common.{◌≡◌, ◌≢◌, ◌≤◌, ◌<◌, ℕ, arith, cond, inl, inr, length, length-append, List, [], ◌∷◌, ◌++◌, append-nil, Option, Some, None, refl, sym, ◌∙◌, ap, subst, append_assoc}
 use Rattle.std.proofs.lemmas.Bool.Decides.{eqb_tells}
 use Rattle.std.proofs.lemmas.List.{map-append}
 use base.Stored.{Gv}
-use Rattle.turnstile.specs.Passing.{TurnstileView, Token}
 use Rattle.turnstile.specs.Turning.{Each, Found}
 use Rattle.turnstile.proofs.Lists.{each_append, map_once}
 use Rattle.dxc_disk.specs.Disks.{DiskState}
@@ -25,7 +24,7 @@ use Rattle.xc_core.specs.declared.restarts.Held.{Held}
 use Rattle.xc_core.specs.declared.restarts.Held.TheVariants as held
 use Rattle.xc_core.specs.States.{IsNeverAstray, Opening, Stands, StandsFor, began, opening_in, opening_of}
 use Rattle.xc_core.specs.Seeing.{IsHistory, Rests, Saw, Turned, TurnedBack, codes, entry, entry_coded, place_of, refused}
-use Rattle.xc_core.specs.Turns.{AreNumbered, HasPass, HeldIs, HoldIs, SawNoneAstray, TakenIs, TookIs, held_entry_of, outcome_of}
+use Rattle.xc_core.specs.Turns.{AreNumbered, HeldIs, HoldIs, SawNoneAstray, TakenIs, TookIs, held_entry_of, outcome_of}
 use Rattle.xc_core.proofs.Standing.{stands_read, table_is}
 
 -- no entry changes the shape
@@ -93,10 +92,6 @@ changes_longer h later =
 never_behind : (h l : List Entry) → IsNeverAstray (h ++ l) → IsNeverAstray l
 never_behind [] l never = never
 never_behind (e ∷ es) l never = never_behind es l never.1
-
--- a pass that comes back from a turn
-pub pass_back : {X : Type 0} (t : TurnstileView X) (p q : Token) → HasPass t p → q.free ≡ true → q.id ≡ t.id → q.number ≡ p.number → AreNumbered t.passes q.seen → HasPass t q × (q.number ≡ p.number)
-pass_back t p q pass free id number numbered = ((free, id, subst (λ (n : ℕ). n < t.passes) (sym number) pass.2, numbered), number)
 
 -- operation and outcome of an entry
 abbrev ends : Op → Outcome → Op × Outcome

@@ -3,7 +3,7 @@ use Rattle.std.specs.Prelude.{◌≡◌, ◌≢◌, ◌<◌, ◌⊎◌, ℕ, tru
 use Rattle.std.specs.List.{range_with_len}
 use base.Stored.{Gv}
 use Rattle.turnstile.specs.Passing.{TurnstileView, Token}
-use Rattle.turnstile.specs.Places.{AreNumberedBy, HasPassBy}
+use Rattle.turnstile.specs.Places.{AreNumberedBy, HasPassBy, KeepsPassBy}
 use Rattle.dxc_disk.specs.Disks.{DiskState}
 use Rattle.dxc_disk.specs.declared.disk.Disk.{Ghosts as DiskOf}
 use Rattle.dxc_outside.specs.declared.stopped.Stopped.{Stopped}
@@ -47,6 +47,10 @@ AreNumbered = AreNumberedBy codes place_of
 -- the pass is one of the turnstile's, no turn of it is out, and what it has seen are entries of the turnstile's passes
 abbrev pub HasPass : {X : Type 0} → TurnstileView X → Token → Type 0
 HasPass = HasPassBy codes place_of
+
+-- so it is after turns of it, and it is the same pass at a later time
+abbrev pub KeepsPass : {X : Type 0} → TurnstileView X → Token → Token → Type 0
+KeepsPass = KeepsPassBy codes place_of
 
 -- of a disk that tells its content, no operation that was seen failed because the journal reads otherwise than it was written
 abbrev pub SawNoneAstray : Type 0 → List Gv → Type 0

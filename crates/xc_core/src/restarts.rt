@@ -1,7 +1,7 @@
 //! The turns of a restart.
 ghost use Rattle.std.specs.Prelude.{◌≡◌, []};
 ghost use Rattle.roll_engine.specs.Rollings.{rest_of};
-ghost use Rattle.xc_core.specs.Turns.{HasPass, SawNoneAstray};
+ghost use Rattle.xc_core.specs.Turns.{HasPass, KeepsPass, SawNoneAstray};
 ghost use Rattle.xc_core.specs.Views.{After, CutToRestart, CutsRestart, EndsRestart, HasSeen, Holds, OutToRestart, Upon};
 
 use crate::provisioner::Driver;
@@ -31,7 +31,7 @@ pub fn hold<D: Disk + Drop, R: Wait>(
 ) -> Held<D>
     requires pass { HasPass turns.now pass.old }
     requires seen { HasSeen D.Disk turns.now pass.old }
-    ensures pass { HasPass turns.now pass.new × (pass.new.number ≡ pass.old.number) }
+    ensures pass { KeepsPass turns.now pass.old pass.new }
     ensures held { After D.Disk turns.now pass.old (Holds D.Disk asked.now pass.new result) }
     ensures astray { SawNoneAstray D.told pass.new.seen }
 {
@@ -61,7 +61,7 @@ pub fn end_restart<D: Disk + Drop, R: Wait>(
     requires pass { HasPass turns.now pass.old }
     requires restart { Upon D.Disk turns.now pass.old (OutToRestart D.Disk asked.now driver.value) }
     requires done { rest_of driver.value.rolling ≡ [] }
-    ensures pass { HasPass turns.now pass.new × (pass.new.number ≡ pass.old.number) }
+    ensures pass { KeepsPass turns.now pass.old pass.new }
     ensures restarted { After D.Disk turns.now pass.old (EndsRestart asked.now pass.new) }
     ensures astray { SawNoneAstray D.told pass.new.seen }
 {
@@ -85,7 +85,7 @@ pub fn cut_restart<D: Disk + Drop, R: Wait>(
     requires pass { HasPass turns.now pass.old }
     requires restart { Upon D.Disk turns.now pass.old
         (CutToRestart D.Disk asked.now driver.value) }
-    ensures pass { HasPass turns.now pass.new × (pass.new.number ≡ pass.old.number) }
+    ensures pass { KeepsPass turns.now pass.old pass.new }
     ensures cut { After D.Disk turns.now pass.old (CutsRestart asked.now pass.new) }
     ensures astray { SawNoneAstray D.told pass.new.seen }
 {

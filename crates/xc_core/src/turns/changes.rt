@@ -2,7 +2,7 @@
 ghost use Rattle.std.specs.Prelude.{◌≡◌, []};
 ghost use Rattle.dxc_model.specs.Operations.{IsApt};
 ghost use Rattle.roll_engine.specs.Rollings.{rest_of};
-ghost use Rattle.xc_core.specs.Turns.{HasPass, SawNoneAstray};
+ghost use Rattle.xc_core.specs.Turns.{HasPass, KeepsPass, SawNoneAstray};
 ghost use Rattle.xc_core.specs.Views.{After, AtRest, Brings, CutFor, Cuts, Denies, FailedFor, Fails, HasSeen, OutFor, Takes, Upon, failing, shape_in};
 
 use super::Took;
@@ -24,7 +24,7 @@ pub fn take<D: Disk + Drop, R: Wait>(
     requires pass { HasPass turns.now pass.old }
     requires apt { IsApt (shape_in D.Disk turns.now) op.now }
     requires seen { HasSeen D.Disk turns.now pass.old }
-    ensures pass { HasPass turns.now pass.new × (pass.new.number ≡ pass.old.number) }
+    ensures pass { KeepsPass turns.now pass.old pass.new }
     ensures took { After D.Disk turns.now pass.old (Takes D.Disk op.now pass.new result) }
     ensures astray { SawNoneAstray D.told pass.new.seen }
 {
@@ -76,7 +76,7 @@ pub fn deny<D: Disk + Drop, R: Wait>(
     requires pass { HasPass turns.now pass.old }
     requires apt { IsApt (shape_in D.Disk turns.now) op.now }
     requires seen { Upon D.Disk turns.now pass.old AtRest }
-    ensures pass { HasPass turns.now pass.new × (pass.new.number ≡ pass.old.number) }
+    ensures pass { KeepsPass turns.now pass.old pass.new }
     ensures denied { After D.Disk turns.now pass.old (Denies D.Disk op.now pass.new result) }
     ensures astray { SawNoneAstray D.told pass.new.seen }
 {
@@ -114,7 +114,7 @@ pub fn bring<D: Disk + Drop, R: Wait>(
     requires pass { HasPass turns.now pass.old }
     requires taken { Upon D.Disk turns.now pass.old (OutFor D.Disk op.now driver.value) }
     requires done { rest_of driver.value.rolling ≡ [] }
-    ensures pass { HasPass turns.now pass.new × (pass.new.number ≡ pass.old.number) }
+    ensures pass { KeepsPass turns.now pass.old pass.new }
     ensures done { After D.Disk turns.now pass.old (Brings op.now pass.new) }
     ensures astray { SawNoneAstray D.told pass.new.seen }
 {
@@ -146,7 +146,7 @@ pub fn fail<D: Disk + Drop, R: Wait>(
     requires pass { HasPass turns.now pass.old }
     requires failed { Upon D.Disk turns.now pass.old
         (FailedFor D.Disk (failing op.now cause driver.value)) }
-    ensures pass { HasPass turns.now pass.new × (pass.new.number ≡ pass.old.number) }
+    ensures pass { KeepsPass turns.now pass.old pass.new }
     ensures failed { After D.Disk turns.now pass.old
         (Fails D.Disk (failing op.now cause driver.value) pass.new) }
     ensures astray { SawNoneAstray D.told pass.new.seen }
@@ -176,7 +176,7 @@ pub fn cut<D: Disk + Drop, R: Wait>(
 )
     requires pass { HasPass turns.now pass.old }
     requires taken { Upon D.Disk turns.now pass.old (CutFor D.Disk op.now driver.value) }
-    ensures pass { HasPass turns.now pass.new × (pass.new.number ≡ pass.old.number) }
+    ensures pass { KeepsPass turns.now pass.old pass.new }
     ensures cut { After D.Disk turns.now pass.old (Cuts op.now pass.new) }
     ensures astray { SawNoneAstray D.told pass.new.seen }
 {

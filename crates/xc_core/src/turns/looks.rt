@@ -2,7 +2,7 @@
 ghost use Rattle.std.specs.Prelude.{◌≡◌, ◌≤◌, length, vec_capacity};
 ghost use Rattle.dxc_num.specs.Dimensions.{ports};
 ghost use Rattle.dxc_model.specs.Histories.{kept};
-ghost use Rattle.xc_core.specs.Turns.{HasPass, IsInventoryOf, SawNoneAstray};
+ghost use Rattle.xc_core.specs.Turns.{HasPass, IsInventoryOf, KeepsPass, SawNoneAstray};
 ghost use Rattle.xc_core.specs.Views.{After, AreApt, AreRowsOf, AtRest, Looks, Marks, ShowsInventory, ShowsRows, Upon, shape_in};
 
 use super::{Inventory, Looked};
@@ -23,7 +23,7 @@ pub fn rows<D: Disk + Drop, R: Wait>(
     requires pass { HasPass turns.now pass.old }
     requires seen { Upon D.Disk turns.now pass.old AtRest }
     requires room { ports (shape_in D.Disk turns.now) ≤ vec_capacity into.old }
-    ensures pass { HasPass turns.now pass.new × (pass.new.number ≡ pass.old.number) }
+    ensures pass { KeepsPass turns.now pass.old pass.new }
     ensures rows { After D.Disk turns.now pass.old (ShowsRows selection pass.new into.new.items) }
     ensures astray { SawNoneAstray D.told pass.new.seen }
     ensures table { AreRowsOf (shape_in D.Disk turns.now) selection into.new.items }
@@ -51,7 +51,7 @@ pub fn look<D: Disk + Drop, R: Wait>(
     requires pass { HasPass turns.now pass.old }
     requires seen { Upon D.Disk turns.now pass.old AtRest }
     requires room { kept ≤ vec_capacity into.old }
-    ensures pass { HasPass turns.now pass.new × (pass.new.number ≡ pass.old.number) }
+    ensures pass { KeepsPass turns.now pass.old pass.new }
     ensures look { After D.Disk turns.now pass.old (Looks cursor pass.new result into.new.items) }
     ensures astray { SawNoneAstray D.told pass.new.seen }
     ensures few { length into.new.items ≤ result.newest }
@@ -73,7 +73,7 @@ pub fn look<D: Disk + Drop, R: Wait>(
 pub fn mark<D: Disk + Drop, R: Wait>(pass: &mut Pass, turns: &Turnstile<State<D>>, rt: &R) -> u64
     requires pass { HasPass turns.now pass.old }
     requires seen { Upon D.Disk turns.now pass.old AtRest }
-    ensures pass { HasPass turns.now pass.new × (pass.new.number ≡ pass.old.number) }
+    ensures pass { KeepsPass turns.now pass.old pass.new }
     ensures mark { After D.Disk turns.now pass.old (Marks pass.new result) }
     ensures astray { SawNoneAstray D.told pass.new.seen }
 {
@@ -94,7 +94,7 @@ pub fn read_inventory<D: Disk + Drop, R: Wait>(
 ) -> Inventory
     requires pass { HasPass turns.now pass.old }
     requires seen { Upon D.Disk turns.now pass.old AtRest }
-    ensures pass { HasPass turns.now pass.new × (pass.new.number ≡ pass.old.number) }
+    ensures pass { KeepsPass turns.now pass.old pass.new }
     ensures inventory { After D.Disk turns.now pass.old (ShowsInventory pass.new result) }
     ensures astray { SawNoneAstray D.told pass.new.seen }
     ensures of_shape { IsInventoryOf (shape_in D.Disk turns.now) result }

@@ -11,11 +11,13 @@ use Rattle.craft_session.specs.Gated.{answers}
 use Rattle.craft_session.proofs.Acted.{acts_nothing, acts_listed, acts_marked, acts_shown, acts_cut, acts_done, acts_refused, acts_restarted, acts_stopped, acts_unrestarted}
 use Rattle.craft_session.proofs.Ends.{by_stop, never, still}
 use Rattle.craft_session.proofs.Gated.{entered_at, entered_none}
+use Rattle.craft_session.proofs.Keeping.{seat_stays}
 use Rattle.craft_session.proofs.act.act.Goals as goal
 
 pub returns-in-Refused : goal.returns-in-Refused
 returns-in-Refused g c = record {
   same = (refl, refl, refl, refl);
+  goes = seat_stays _;
   acts = λ h saw. rw c.in-Refused.is (acts_nothing _ _ h _ _ _ _ _ saw (refl, refl) refl);
   of_shape = tt;
   user = sym (ap (user_after c.args.attending.now.user) c.in-Refused.is);
@@ -27,6 +29,7 @@ returns-in-Refused g c = record {
 pub returns-in-LogsIn : goal.returns-in-LogsIn
 returns-in-LogsIn g c = record {
   same = (refl, refl, refl, refl);
+  goes = seat_stays _;
   acts = λ h saw. rw c.in-LogsIn.is (acts_nothing _ _ h _ _ _ _ _ saw (refl, refl) refl);
   of_shape = tt;
   user = sym (ap (user_after c.args.attending.now.user) c.in-LogsIn.is);
@@ -38,6 +41,7 @@ returns-in-LogsIn g c = record {
 pub returns-in-LogsOut : goal.returns-in-LogsOut
 returns-in-LogsOut g c = record {
   same = (refl, refl, refl, refl);
+  goes = seat_stays _;
   acts = λ h saw. rw c.in-LogsOut.is (acts_nothing _ _ h _ _ _ _ _ saw (refl, refl) refl);
   of_shape = tt;
   user = sym (ap (user_after c.args.attending.now.user) c.in-LogsOut.is);
@@ -49,6 +53,7 @@ returns-in-LogsOut g c = record {
 pub returns-in-Completes : goal.returns-in-Completes
 returns-in-Completes g c = record {
   same = (refl, refl, refl, refl);
+  goes = seat_stays _;
   acts = λ h saw. rw c.in-Completes.is (acts_nothing _ _ h _ _ _ _ _ saw (refl, refl) refl);
   of_shape = tt;
   user = sym (ap (user_after c.args.attending.now.user) c.in-Completes.is);
@@ -60,6 +65,7 @@ returns-in-Completes g c = record {
 pub returns-in-Allows : goal.returns-in-Allows
 returns-in-Allows g c = record {
   same = c.mark-newest.ensures.same;
+  goes = c.mark-newest.ensures.goes;
   acts = λ h saw.
       let s = c.args.attending.now in
       let z = subst (λ (k : ℕ). Acts c.args.seat.now.opening c.args.seat.now.place h s Allows completed (record { user = s.user; watch = Some k }) c.mark-newest.new.self.seen) (sym c.cursor.ensures) (acts_marked c.args.seat.now.opening c.args.seat.now.place h s c.mark-newest.result c.mark-newest.new.self.seen (c.mark-newest.ensures.mark h saw)) in
@@ -74,6 +80,7 @@ returns-in-Allows g c = record {
 pub returns-in-Inhibits : goal.returns-in-Inhibits
 returns-in-Inhibits g c = record {
   same = (refl, refl, refl, refl);
+  goes = seat_stays _;
   acts = λ h saw. rw c.in-Inhibits.is (acts_nothing _ _ h _ _ _ _ _ saw (refl, refl) refl);
   of_shape = tt;
   user = sym (ap (user_after c.args.attending.now.user) c.in-Inhibits.is);
@@ -85,6 +92,7 @@ returns-in-Inhibits g c = record {
 pub returns-in-Lists : goal.returns-in-Lists
 returns-in-Lists g c = record {
   same = c.rows.ensures.same;
+  goes = c.rows.ensures.goes;
   acts = λ h saw. rw c.in-Lists.is (acts_listed _ _ h _ c.in-Lists.selection _ _ (c.rows.ensures.rows h saw));
   of_shape = c.rows.ensures.of_shape;
   user = sym (ap (user_after c.args.attending.now.user) c.in-Lists.is);
@@ -96,6 +104,7 @@ returns-in-Lists g c = record {
 pub returns-in-Shows : goal.returns-in-Shows
 returns-in-Shows g c = record {
   same = c.inventory-inventory.ensures.same;
+  goes = c.inventory-inventory.ensures.goes;
   acts = λ h saw. rw c.in-Shows.is (acts_shown _ _ h _ c.in-Shows.subject c.inventory-inventory.result _ (c.inventory-inventory.ensures.inventory h saw));
   of_shape = c.inventory-inventory.ensures.of_shape;
   user = sym (ap (user_after c.args.attending.now.user) c.in-Shows.is);
@@ -107,6 +116,7 @@ returns-in-Shows g c = record {
 pub returns-in-Done : goal.returns-in-Done
 returns-in-Done g c = record {
   same = c.restart.ensures.same;
+  goes = c.restart.ensures.goes;
   acts = λ h saw. rw c.in-Restarts.is (acts_restarted _ _ h _ _ _ (c.restart.ensures.restarted h saw) (c.in_ok-restart-in-Restarts.was ∙ ap (λ (p : Changed). Ok p) c.in-Done.is));
   of_shape = tt;
   user = sym (ap (user_after c.args.attending.now.user) c.in-Restarts.is);
@@ -118,6 +128,7 @@ returns-in-Done g c = record {
 pub returns-in-Denied : goal.returns-in-Denied
 returns-in-Denied g c = record {
   same = c.restart.ensures.same;
+  goes = c.restart.ensures.goes;
   acts = λ h saw. rw c.in-Restarts.is (acts_unrestarted _ _ h _ _ _ (c.restart.ensures.restarted h saw) c.in-Denied.cause (c.in_ok-restart-in-Restarts.was ∙ ap (λ (p : Changed). Ok p) c.in-Denied.is));
   of_shape = tt;
   user = sym (ap (user_after c.args.attending.now.user) c.in-Restarts.is);
@@ -132,6 +143,7 @@ returns-in_err-restart-in-Restarts g c =
     let stop = c.from_residual.ensures.0 in
     record {
       same = c.restart.ensures.same;
+      goes = c.restart.ensures.goes;
       acts = λ h saw.
           by_stop (λ (r : Result Acted Stopped). ActedIs seat.opening seat.place h c.args.attending.now c.args.ask.now r c.args.rows.now.items c.args.attending.now c.restart.new.self.seen) c.from_residual.result stop
           (rw c.in-Restarts.is (acts_cut _ _ h _ _ _ (c.restart.ensures.restarted h saw) c.in_err-restart-in-Restarts.was));
@@ -145,6 +157,7 @@ returns-in_err-restart-in-Restarts g c =
 pub returns-in-Done-2 : goal.returns-in-Done-2
 returns-in-Done-2 g c = record {
   same = c.change.ensures.same;
+  goes = c.change.ensures.goes;
   acts = λ h saw. rw c.in-Changes.is (acts_done _ _ h _ c.in-Changes.op _ _ (c.change.ensures.changed h saw) (c.in_ok-change-in-Changes.was ∙ ap (λ (p : Changed). Ok p) c.in-Done-2.is));
   of_shape = tt;
   user = sym (ap (user_after c.args.attending.now.user) c.in-Changes.is);
@@ -156,6 +169,7 @@ returns-in-Done-2 g c = record {
 pub returns-in-Denied-2 : goal.returns-in-Denied-2
 returns-in-Denied-2 g c = record {
   same = c.change.ensures.same;
+  goes = c.change.ensures.goes;
   acts = λ h saw. rw c.in-Changes.is (acts_refused _ _ h _ c.in-Changes.op _ _ (c.change.ensures.changed h saw) c.in-Denied-2.cause (c.in_ok-change-in-Changes.was ∙ ap (λ (p : Changed). Ok p) c.in-Denied-2.is));
   of_shape = tt;
   user = sym (ap (user_after c.args.attending.now.user) c.in-Changes.is);
@@ -170,6 +184,7 @@ returns-in_err-change-in-Changes g c =
     let stop = c.from_residual-in_err-change-in-Changes.ensures.0 in
     record {
       same = c.change.ensures.same;
+      goes = c.change.ensures.goes;
       acts = λ h saw.
           by_stop (λ (r : Result Acted Stopped). ActedIs seat.opening seat.place h c.args.attending.now c.args.ask.now r c.args.rows.now.items c.args.attending.now c.change.new.self.seen) c.from_residual-in_err-change-in-Changes.result stop
           (rw c.in-Changes.is (acts_stopped _ _ h _ c.in-Changes.op _ _ (c.change.ensures.changed h saw) c.in_err-change-in-Changes.was));

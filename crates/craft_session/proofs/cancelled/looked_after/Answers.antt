@@ -1,6 +1,7 @@
 use Rattle.std.proofs.Common.{sym, ◌∙◌}
 use Rattle.user_admin.proofs.Turning.{turned_none}
 use Rattle.craft_session.proofs.Cancelling.{ended_by, never_ended, nobody_unended, unended_by}
+use Rattle.craft_session.proofs.Keeping.{user_seat_stays}
 use Rattle.craft_session.proofs.Waiting.{both_no}
 use Rattle.craft_session.proofs.cancelled.looked_after.Goals as goal
 
@@ -26,3 +27,9 @@ returns-in-User-clause-heeded g c = λ h saw.
       ended = λ is. ended_by c.args.seat.now.place c.args.user _ (λ nobody. let no = sym c.in-User.is ∙ nobody in cc) (sym x.1 ∙ is);
       goes_on = λ is limits. unended_by c.args.seat.now.place c.args.user _ (sym x.1 ∙ is);
     }
+
+pub returns-in-Endless-clause-goes : goal.returns-in-Endless-clause-goes
+returns-in-Endless-clause-goes g c = user_seat_stays _
+
+pub returns-in-Nobody-clause-goes : goal.returns-in-Nobody-clause-goes
+returns-in-Nobody-clause-goes g c = user_seat_stays _

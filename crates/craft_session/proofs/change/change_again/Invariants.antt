@@ -2,7 +2,7 @@ use Rattle.std.proofs.Common.{◌≡◌, false, List}
 use Rattle.dxc_model.specs.declared.entry.Entry.{Entry}
 use Rattle.xc_core.specs.Seeing.{Saw}
 use Rattle.xc_core.specs.States.{opening_of}
-use Rattle.xc_core.specs.Turns.{HasPass}
+use Rattle.xc_core.specs.Turns.{KeepsPass}
 use Rattle.dxc_outside.specs.declared.gate.GatePlace.{GatePlace}
 use Rattle.craft_session.specs.Askings.{AreMendings}
 use Rattle.craft_session.specs.Changing.{MendedBy}
@@ -12,8 +12,7 @@ use Rattle.craft_session.proofs.change.change_again.Given as goal
 abbrev pub invariant-loop : goal.invariant-loop
 invariant-loop g l = record {
   goes : (goal.iterator-loop g).can_next l.iterator' × (goal.iterator-loop g).is_finite l.iterator';
-  pass : HasPass l.turns l.pass;
-  number : l.pass.number ≡ l.fn.pass.number;
+  pass : KeepsPass l.turns l.fn.pass l.pass;
   mended : (h : List Entry) → Saw (opening_of g.D.Disk.state l.turns.first) l.fn.pass.seen h → MendedBy (opening_of g.D.Disk.state l.turns.first) l.fn.pass.number h l.pass.seen;
   gate : g.G.Gate.stops l.gate ≡ g.G.Gate.stops l.fn.gate;
   asked : (front : List GatePlace) × AreMendings front × g.G.Gate.asked l.fn.gate l.gate front;

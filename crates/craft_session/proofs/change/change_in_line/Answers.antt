@@ -11,6 +11,7 @@ use Rattle.craft_session.specs.Changing.{ChangedIs}
 use Rattle.craft_session.proofs.Changing.{changed_on, took_denied, turned_back_mended}
 use Rattle.craft_session.proofs.Ends.{still}
 use Rattle.craft_session.proofs.Gated.{entered_back, entered_on, entered_take}
+use Rattle.craft_session.proofs.Keeping.{keeps_on}
 use Rattle.craft_session.proofs.change.change_in_line.Goals as goal
 
 pub change-changed-requires-clause-seen : goal.change-changed-requires-clause-seen
@@ -39,14 +40,14 @@ returns-in-None g c =
     let r = c.change-changed.ensures in
     let back : (h : List Entry) → Saw o c.args.pass.now.seen h → TurnedBack o own h c.stand.new.pass.seen = λ h saw. subst (λ (a : Option Cause). Denies g.D.Disk c.args.op.now c.stand.new.pass a (view g.D.Disk c.args.turns.now c.args.pass.now) h) c.in-None.is (c.stand.ensures.denied h saw) in
     record {
-      pass = (r.pass.0, r.pass.1 ∙ c.stand.ensures.pass.1);
+      pass = keeps_on c.args.turns.now c.args.pass.now c.stand.new.pass c.change-changed.new.pass c.stand.ensures.pass r.pass;
       changed = λ h saw.
           let b = turned_back_mended o own h c.stand.new.pass.seen (back h saw) in
           changed_on o own h c.args.op.now c.stand.new.pass.seen c.change-changed.new.pass.seen b c.change-changed.result
-          (subst (λ (n : ℕ). ChangedIs o n (h ++ b.front) c.args.op.now c.change-changed.new.pass.seen c.change-changed.result) c.stand.ensures.pass.1 (r.changed (h ++ b.front) b.saw));
+          (subst (λ (n : ℕ). ChangedIs o n (h ++ b.front) c.args.op.now c.change-changed.new.pass.seen c.change-changed.result) c.stand.ensures.pass.goes.same.0 (r.changed (h ++ b.front) b.saw));
       astray = r.astray;
       stopped = r.stopped;
       asked = r.asked;
-      entered = λ h saw. entered_on g.G.Gate.asked g.G.Gate.asked_on c.args.gate.now c.args.gate.now c.change-changed.new.gate o own c.stand.new.pass.number false false false h c.stand.new.pass.seen c.change-changed.new.pass.seen c.stand.ensures.pass.1
+      entered = λ h saw. entered_on g.G.Gate.asked g.G.Gate.asked_on c.args.gate.now c.args.gate.now c.change-changed.new.gate o own c.stand.new.pass.number false false false h c.stand.new.pass.seen c.change-changed.new.pass.seen c.stand.ensures.pass.goes.same.0
           (entered_back o own (g.G.Gate.asked c.args.gate.now c.args.gate.now) h c.stand.new.pass.seen (g.G.Gate.unasked c.args.gate.now) (back h saw)) r.entered;
     }

@@ -4,11 +4,12 @@ use Rattle.dxc_model.specs.declared.entry.Entry.{Entry}
 use Rattle.xc_core.specs.Seeing.{Saw}
 use Rattle.xc_core.specs.States.{opening_of}
 use Rattle.xc_core.specs.Views.{Denies, view}
+use Rattle.craft_session.proofs.Keeping.{keeps_none}
 use Rattle.craft_session.proofs.change.stand.Goals as goal
 
 pub returns-then-try_line : goal.returns-then-try_line
 returns-then-try_line g c = record {
-  pass = (c.requires.pass, refl);
+  pass = keeps_none c.args.turns.now c.args.pass.now c.requires.pass;
   denied = λ h saw. record { later = []; others = tt; saw = subst (λ (l : List Entry). Saw (opening_of g.D.Disk.state c.args.turns.now.first) c.args.pass.now.seen l) (sym (append-nil h)) saw };
   astray = tt;
 }

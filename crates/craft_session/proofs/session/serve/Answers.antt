@@ -10,7 +10,7 @@ use Rattle.tl1_text.specs.Reading.{Reader}
 use Rattle.craft_session.specs.declared.end.Progress.{Progress}
 use Rattle.craft_session.specs.declared.end.Progress.TheVariants.{On, Cut}
 use Rattle.craft_session.specs.Noted.{stood}
-use Rattle.craft_session.specs.Sessions.{Beginning, Stands}
+use Rattle.craft_session.specs.Sessions.{Beginning, Stands, done_before}
 use Rattle.craft_session.proofs.Ends.{bytes_came, cancelled_no, counted_none, end_came, end_no, few_here, few_more, idle_no, later_behind, quiet_came, read_no, rose_behind, rose_later, spent_no, stayed, stayed_ok, stop_no, unattended_no, unheld, write_no}
 use Rattle.craft_session.proofs.Gated.{are_entered_beside, are_entered_none, are_entered_on}
 use Rattle.craft_session.proofs.Noted.{beside_reports, noted_beside, noted_more, noted_moved, noted_none, noted_read}
@@ -38,9 +38,9 @@ loop-init g c = record {
   shelf = refl;
   seat = (refl, refl, refl, refl);
   users = (refl, refl, refl, refl);
-  stands = λ b at saw users. stands_none (language_for c.args.desk.now.attending.user (arc_value c.args.desk.now.shelf)) g.K.Link.told g.C.Timestamps.told (g.K.Link.state c.args.link.now) (g.C.Timestamps.coming c.args.clock.now) b (now c.args.desk.now) c.args.desk.now.reader saw users c.requires.begun c.requires.nothing_read;
+  stands = λ b at saw users first. stands_none (language_for c.args.desk.now.attending.user (arc_value c.args.desk.now.shelf)) g.K.Link.told g.C.Timestamps.told (g.K.Link.state c.args.link.now) (g.C.Timestamps.coming c.args.clock.now) b (now c.args.desk.now) c.args.desk.now.reader saw users first c.requires.begun c.requires.nothing_read;
   prompt = prompt_none (language_for c.args.desk.now.attending.user (arc_value c.args.desk.now.shelf)) g.K.Link.begun g.K.Link.told g.C.Timestamps.told (g.K.Link.state c.args.link.now) (g.C.Timestamps.coming c.args.clock.now) c.args.desk.now.seat c.args.desk.now.users.seat;
-  timely = λ b at saw users. timely_none (language_for c.args.desk.now.attending.user (arc_value c.args.desk.now.shelf)) (telling g.K.Link.told g.C.Timestamps.told g.C.Timestamps.stamped) (starting (g.K.Link.state c.args.link.now) (g.C.Timestamps.coming c.args.clock.now) b) (g.K.Link.state c.args.link.now) _ refl;
+  timely = λ b at saw users first. timely_none (language_for c.args.desk.now.attending.user (arc_value c.args.desk.now.shelf)) (telling g.K.Link.told g.C.Timestamps.told g.C.Timestamps.stamped) (starting (g.K.Link.state c.args.link.now) (g.C.Timestamps.coming c.args.clock.now) b) (g.K.Link.state c.args.link.now) _ refl;
   gate = refl;
   counted = counted_none _;
   faults = refl;
@@ -57,16 +57,16 @@ loop-init g c = record {
 
 pub returns-in-Ok-Cut : goal.returns-in-Ok-Cut
 returns-in-Ok-Cut g c =
-    let moved = looked (language_for c.args.desk.now.attending.user (arc_value c.args.desk.now.shelf)) (telling g.K.Link.told g.C.Timestamps.told g.C.Timestamps.stamped) g.G.Gate.asked g.G.Gate.asked_on g.G.Gate.unasked (g.K.Link.state c.args.link.now) (g.K.Link.state c.loop.link) (g.C.Timestamps.coming c.args.clock.now) (g.C.Timestamps.coming c.loop.clock) c.args.desk.now.seat c.args.desk.now.users.seat c.args.gate.now c.loop.gate c.args.patience c.is_cancelled.result c.loop.desk.seat c.loop.desk.users.seat c.is_cancelled.new.desk.users.seat c.loop.desk.attending c.loop.desk.reader (record { seat_is = c.loop.invariant.seat; users_are = c.loop.invariant.users; stands = c.loop.invariant.stands; timely = c.loop.invariant.timely; entered = c.loop.invariant.asked }) c.is_cancelled.ensures.users c.is_cancelled.ensures.heeded c.is_cancelled.new.desk.seat c.is_cancelled.new.desk.attending c.is_cancelled.new.desk.reader c.is_cancelled.ensures.seat c.is_cancelled.ensures.attending c.is_cancelled.ensures.reader in
+    let moved = looked (language_for c.args.desk.now.attending.user (arc_value c.args.desk.now.shelf)) (telling g.K.Link.told g.C.Timestamps.told g.C.Timestamps.stamped) g.G.Gate.asked g.G.Gate.asked_on g.G.Gate.unasked (g.K.Link.state c.args.link.now) (g.K.Link.state c.loop.link) (g.C.Timestamps.coming c.args.clock.now) (g.C.Timestamps.coming c.loop.clock) c.args.desk.now.seat c.args.desk.now.users.seat c.args.gate.now c.loop.gate c.args.patience c.is_cancelled.result c.loop.desk.seat c.loop.desk.users.seat c.is_cancelled.new.desk.users.seat c.loop.desk.attending c.loop.desk.reader (record { seat_is = c.loop.invariant.seat; users_are = c.loop.invariant.users; stands = c.loop.invariant.stands; timely = c.loop.invariant.timely; entered = c.loop.invariant.asked }) c.is_cancelled.ensures.users c.is_cancelled.ensures.in_turn c.is_cancelled.ensures.heeded c.is_cancelled.new.desk.seat c.is_cancelled.new.desk.attending c.is_cancelled.new.desk.reader c.is_cancelled.ensures.seat c.is_cancelled.ensures.attending c.is_cancelled.ensures.reader in
     let idles_here = subst (λ (a : Attending). Idles (c.args.patience ≡ Limited) ((arc_value c.args.desk.now.shelf).idle) (language_for c.args.desk.now.attending.user (arc_value c.args.desk.now.shelf)) g.K.Link.begun g.K.Link.told g.C.Timestamps.told (g.K.Link.state c.args.link.now) (g.C.Timestamps.coming c.args.clock.now) c.args.desk.now.seat c.args.desk.now.users.seat (g.K.Link.state c.loop.link) a.user c.loop.counter c.loop.silent) (sym c.is_cancelled.ensures.attending) c.loop.invariant.idles in
     let noted_here = noted_beside (arc_value c.args.desk.now.shelf) (telling g.K.Link.told g.C.Timestamps.told g.C.Timestamps.stamped) (stood (g.K.Link.state c.args.link.now) (g.C.Timestamps.coming c.args.clock.now) c.args.desk.now.seat c.args.desk.now.users.seat c.args.desk.now.attending) (stood (g.K.Link.state c.loop.link) (g.C.Timestamps.coming c.loop.clock) c.loop.desk.seat c.loop.desk.users.seat c.loop.desk.attending) (stood (g.K.Link.state c.loop.link) (g.C.Timestamps.coming c.loop.clock) c.is_cancelled.new.desk.seat c.is_cancelled.new.desk.users.seat c.is_cancelled.new.desk.attending) (g.N.Notes.noted c.args.notes.now c.loop.notes) c.loop.invariant.noted (beside_look g.K.Link.told (g.K.Link.state c.loop.link) (g.C.Timestamps.coming c.loop.clock) c.args.patience c.is_cancelled.result c.loop.desk.seat c.is_cancelled.new.desk.seat c.loop.desk.users.seat c.is_cancelled.new.desk.users.seat c.loop.desk.attending c.is_cancelled.new.desk.attending c.is_cancelled.ensures.seat c.is_cancelled.ensures.users c.is_cancelled.ensures.heeded c.is_cancelled.ensures.attending) in
     let h = c.seen.ensures.history in
     let p = c.seen-2.ensures.history in
     let seat = c.args.desk.now.seat in
-    let b : Beginning = record { opening = seat.opening; users = c.args.desk.now.users.seat.opening; place = seat.place; before = h.0; users_before = p.0 } in
+    let b : Beginning = record { opening = seat.opening; users = c.args.desk.now.users.seat.opening; place = seat.place; before = h.0; users_before = p.0; first = done_before seat c.args.desk.now.users.seat p.1.marks } in
     let s = c.serve_piece.ensures in
     let going : (g.K.Link.state c.serve_piece.new.link).ended ≡ false = s.link.wrote.ended ∙ c.in-Bytes.ensures.read.ended in
-    let breaks = goes_cut_is _ _ _ _ _ _ _ _ _ _ _ _ _ (c.in-Ok-Cut.is ∙ ap (λ (p : Progress). Ok p) c.in-Ok-Cut.field-0-is) (moved_goes arc_value c.args.desk.now.attending.user g.K.Link.told g.C.Timestamps.told _ (g.K.Link.state c.serve_piece.new.link) (g.C.Timestamps.coming c.loop.clock) (g.C.Timestamps.coming c.serve_piece.new.clock) (now c.is_cancelled.new.desk) (now c.serve_piece.new.desk) false c.is_cancelled.new.desk.reader c.serve_piece.new.desk.reader c.serve_piece.result c.args.desk.now.shelf c.is_cancelled.new.desk.shelf c.args.desk.now.seat c.is_cancelled.new.desk.seat c.args.desk.now.users.seat c.is_cancelled.new.desk.users.seat _ [] (c.is_cancelled.ensures.shelf ∙ c.loop.invariant.shelf) moved.here.seat_is moved.here.users_are (c.serve_piece.ensures.goes c.args.desk.now.attending.user) _ _ b (refl, refl, refl, c.args.desk.now.same_place) (stands_piece _ _ _ _ _ _ _ _ _ _ _ _ _ _ (moved.here.stands b (refl, refl, refl, c.args.desk.now.same_place) h.1 p.1) c.in-Bytes.ensures.read (grind (arith, common_steps)))) in
+    let breaks = goes_cut_is _ _ _ _ _ _ _ _ _ _ _ _ _ (c.in-Ok-Cut.is ∙ ap (λ (p : Progress). Ok p) c.in-Ok-Cut.field-0-is) (moved_goes arc_value c.args.desk.now.attending.user g.K.Link.told g.C.Timestamps.told _ (g.K.Link.state c.serve_piece.new.link) (g.C.Timestamps.coming c.loop.clock) (g.C.Timestamps.coming c.serve_piece.new.clock) (now c.is_cancelled.new.desk) (now c.serve_piece.new.desk) false c.is_cancelled.new.desk.reader c.serve_piece.new.desk.reader c.serve_piece.result c.args.desk.now.shelf c.is_cancelled.new.desk.shelf c.args.desk.now.seat c.is_cancelled.new.desk.seat c.args.desk.now.users.seat c.is_cancelled.new.desk.users.seat _ [] (c.is_cancelled.ensures.shelf ∙ c.loop.invariant.shelf) moved.here.seat_is moved.here.users_are (c.serve_piece.ensures.goes c.args.desk.now.attending.user) _ _ b (refl, refl, refl, c.args.desk.now.same_place) (stands_piece _ _ _ _ _ _ _ _ _ _ _ _ _ _ (moved.here.stands b (refl, refl, refl, c.args.desk.now.same_place) h.1 p.1 (record { stamps_are = refl; users_stamps_are = refl; codes_are = p.1.codes_are })) c.in-Bytes.ensures.read (grind (arith, common_steps)))) in
     record {
       shelf = s.shelf ∙ (c.is_cancelled.ensures.shelf ∙ c.loop.invariant.shelf);
       seat = (s.seat.0 ∙ moved.here.seat_is.0, s.seat.1 ∙ moved.here.seat_is.1, s.seat.2 ∙ moved.here.seat_is.2, s.seat.3 ∙ moved.here.seat_is.3);
@@ -74,11 +74,11 @@ returns-in-Ok-Cut g c =
       hung_up = s.hung_up ∙ c.in-Bytes.ensures.hung_up ∙ c.loop.invariant.hung_up;
       session = record { before = h.0; users_before = p.0; saw = h.1; users_saw = p.1; attending = _; session = breaks };
       prompt = prompt_more (language_for c.args.desk.now.attending.user (arc_value c.args.desk.now.shelf)) g.K.Link.begun g.K.Link.told g.C.Timestamps.told (g.K.Link.state c.args.link.now) (g.C.Timestamps.coming c.args.clock.now) c.args.desk.now.seat c.args.desk.now.users.seat (g.K.Link.state c.loop.link) (g.K.Link.state c.serve_piece.new.link) _ (g.C.Timestamps.coming c.loop.clock) (now c.is_cancelled.new.desk) c.is_cancelled.new.desk.reader c.loop.invariant.prompt c.in-Bytes.ensures.begun moved.here.stands c.in-Bytes.ensures.read.reads s.link.wrote.reads;
-      heeds = λ limits. heeds_more (language_for c.args.desk.now.attending.user (arc_value c.args.desk.now.shelf)) g.K.Link.begun g.K.Link.told g.C.Timestamps.told (g.K.Link.state c.args.link.now) (g.C.Timestamps.coming c.args.clock.now) c.args.desk.now.seat c.args.desk.now.users.seat (g.K.Link.state c.loop.link) (g.K.Link.state c.serve_piece.new.link) _ (g.C.Timestamps.coming c.loop.clock) (now c.is_cancelled.new.desk) c.is_cancelled.new.desk.reader (c.loop.invariant.heeds limits) c.in-Bytes.ensures.begun (λ b at saw users. (moved.here.stands b at saw users, moved.unended c.if-is_cancelled.false limits b at saw users)) c.in-Bytes.ensures.read.reads s.link.wrote.reads;
-      timely = λ b at saw users.
-          timely_read (language_for c.args.desk.now.attending.user (arc_value c.args.desk.now.shelf)) (telling g.K.Link.told g.C.Timestamps.told g.C.Timestamps.stamped) (starting (g.K.Link.state c.args.link.now) (g.C.Timestamps.coming c.args.clock.now) b) (g.K.Link.state c.args.link.now) (g.K.Link.state c.loop.link) c.is_cancelled.new.desk.seat.seen c.is_cancelled.new.desk.users.seat.seen (moved.here.timely b at saw users) _ _ _ _ c.in-Bytes.ensures.read
+      heeds = λ limits. heeds_more (language_for c.args.desk.now.attending.user (arc_value c.args.desk.now.shelf)) g.K.Link.begun g.K.Link.told g.C.Timestamps.told (g.K.Link.state c.args.link.now) (g.C.Timestamps.coming c.args.clock.now) c.args.desk.now.seat c.args.desk.now.users.seat (g.K.Link.state c.loop.link) (g.K.Link.state c.serve_piece.new.link) _ (g.C.Timestamps.coming c.loop.clock) (now c.is_cancelled.new.desk) c.is_cancelled.new.desk.reader (c.loop.invariant.heeds limits) c.in-Bytes.ensures.begun (λ b at saw users first. (moved.here.stands b at saw users first, moved.unended c.if-is_cancelled.false limits b at saw users first)) c.in-Bytes.ensures.read.reads s.link.wrote.reads;
+      timely = λ b at saw users first.
+          timely_read (language_for c.args.desk.now.attending.user (arc_value c.args.desk.now.shelf)) (telling g.K.Link.told g.C.Timestamps.told g.C.Timestamps.stamped) (starting (g.K.Link.state c.args.link.now) (g.C.Timestamps.coming c.args.clock.now) b) (g.K.Link.state c.args.link.now) (g.K.Link.state c.loop.link) c.is_cancelled.new.desk.seat.seen c.is_cancelled.new.desk.users.seat.seen (moved.here.timely b at saw users first) _ _ _ _ c.in-Bytes.ensures.read
           (timely_moved arc_value (telling g.K.Link.told g.C.Timestamps.told g.C.Timestamps.stamped) (g.C.Timestamps.coming c.loop.clock) _ _ (in_hand c.is_cancelled.new.desk.attending false More c.is_cancelled.new.desk.reader _) c.args.desk.now.shelf c.is_cancelled.new.desk.shelf c.args.desk.now.seat c.is_cancelled.new.desk.seat c.args.desk.now.users.seat c.is_cancelled.new.desk.users.seat (c.is_cancelled.ensures.shelf ∙ c.loop.invariant.shelf) moved.here.seat_is moved.here.users_are c.serve_piece.ensures.timely c.args.desk.now.attending.user _ _ b at
-          (stands_piece _ _ _ _ _ _ _ _ _ _ _ _ _ _ (moved.here.stands b at saw users) c.in-Bytes.ensures.read (grind (arith, common_steps))))
+          (stands_piece _ _ _ _ _ _ _ _ _ _ _ _ _ _ (moved.here.stands b at saw users first) c.in-Bytes.ensures.read (grind (arith, common_steps))))
           (went_to g.K.Link.told b _ (g.K.Link.state c.serve_piece.new.link) c.is_cancelled.new.desk.seat c.is_cancelled.new.desk.users.seat (moved.here.seat_is.0 ∙ at.0, moved.here.seat_is.1 ∙ at.1, moved.here.users_are.0 ∙ at.2, moved.here.users_are.1 ∙ at.3) c.serve_piece.ensures.link _ _ _ c.serve_piece.ensures.asked);
       end = ((λ is. write_no _ is refl), (λ ended. unheld _ going ended));
       all_read = λ t is. write_no _ is refl;
@@ -103,26 +103,26 @@ returns-in-Ok-Cut g c =
 
 pub returns-in-Err : goal.returns-in-Err
 returns-in-Err g c =
-    let moved = looked (language_for c.args.desk.now.attending.user (arc_value c.args.desk.now.shelf)) (telling g.K.Link.told g.C.Timestamps.told g.C.Timestamps.stamped) g.G.Gate.asked g.G.Gate.asked_on g.G.Gate.unasked (g.K.Link.state c.args.link.now) (g.K.Link.state c.loop.link) (g.C.Timestamps.coming c.args.clock.now) (g.C.Timestamps.coming c.loop.clock) c.args.desk.now.seat c.args.desk.now.users.seat c.args.gate.now c.loop.gate c.args.patience c.is_cancelled.result c.loop.desk.seat c.loop.desk.users.seat c.is_cancelled.new.desk.users.seat c.loop.desk.attending c.loop.desk.reader (record { seat_is = c.loop.invariant.seat; users_are = c.loop.invariant.users; stands = c.loop.invariant.stands; timely = c.loop.invariant.timely; entered = c.loop.invariant.asked }) c.is_cancelled.ensures.users c.is_cancelled.ensures.heeded c.is_cancelled.new.desk.seat c.is_cancelled.new.desk.attending c.is_cancelled.new.desk.reader c.is_cancelled.ensures.seat c.is_cancelled.ensures.attending c.is_cancelled.ensures.reader in
+    let moved = looked (language_for c.args.desk.now.attending.user (arc_value c.args.desk.now.shelf)) (telling g.K.Link.told g.C.Timestamps.told g.C.Timestamps.stamped) g.G.Gate.asked g.G.Gate.asked_on g.G.Gate.unasked (g.K.Link.state c.args.link.now) (g.K.Link.state c.loop.link) (g.C.Timestamps.coming c.args.clock.now) (g.C.Timestamps.coming c.loop.clock) c.args.desk.now.seat c.args.desk.now.users.seat c.args.gate.now c.loop.gate c.args.patience c.is_cancelled.result c.loop.desk.seat c.loop.desk.users.seat c.is_cancelled.new.desk.users.seat c.loop.desk.attending c.loop.desk.reader (record { seat_is = c.loop.invariant.seat; users_are = c.loop.invariant.users; stands = c.loop.invariant.stands; timely = c.loop.invariant.timely; entered = c.loop.invariant.asked }) c.is_cancelled.ensures.users c.is_cancelled.ensures.in_turn c.is_cancelled.ensures.heeded c.is_cancelled.new.desk.seat c.is_cancelled.new.desk.attending c.is_cancelled.new.desk.reader c.is_cancelled.ensures.seat c.is_cancelled.ensures.attending c.is_cancelled.ensures.reader in
     let idles_here = subst (λ (a : Attending). Idles (c.args.patience ≡ Limited) ((arc_value c.args.desk.now.shelf).idle) (language_for c.args.desk.now.attending.user (arc_value c.args.desk.now.shelf)) g.K.Link.begun g.K.Link.told g.C.Timestamps.told (g.K.Link.state c.args.link.now) (g.C.Timestamps.coming c.args.clock.now) c.args.desk.now.seat c.args.desk.now.users.seat (g.K.Link.state c.loop.link) a.user c.loop.counter c.loop.silent) (sym c.is_cancelled.ensures.attending) c.loop.invariant.idles in
     let noted_here = noted_beside (arc_value c.args.desk.now.shelf) (telling g.K.Link.told g.C.Timestamps.told g.C.Timestamps.stamped) (stood (g.K.Link.state c.args.link.now) (g.C.Timestamps.coming c.args.clock.now) c.args.desk.now.seat c.args.desk.now.users.seat c.args.desk.now.attending) (stood (g.K.Link.state c.loop.link) (g.C.Timestamps.coming c.loop.clock) c.loop.desk.seat c.loop.desk.users.seat c.loop.desk.attending) (stood (g.K.Link.state c.loop.link) (g.C.Timestamps.coming c.loop.clock) c.is_cancelled.new.desk.seat c.is_cancelled.new.desk.users.seat c.is_cancelled.new.desk.attending) (g.N.Notes.noted c.args.notes.now c.loop.notes) c.loop.invariant.noted (beside_look g.K.Link.told (g.K.Link.state c.loop.link) (g.C.Timestamps.coming c.loop.clock) c.args.patience c.is_cancelled.result c.loop.desk.seat c.is_cancelled.new.desk.seat c.loop.desk.users.seat c.is_cancelled.new.desk.users.seat c.loop.desk.attending c.is_cancelled.new.desk.attending c.is_cancelled.ensures.seat c.is_cancelled.ensures.users c.is_cancelled.ensures.heeded c.is_cancelled.ensures.attending) in
     let h = c.seen.ensures.history in
     let p = c.seen-2.ensures.history in
     let seat = c.args.desk.now.seat in
-    let b : Beginning = record { opening = seat.opening; users = c.args.desk.now.users.seat.opening; place = seat.place; before = h.0; users_before = p.0 } in
+    let b : Beginning = record { opening = seat.opening; users = c.args.desk.now.users.seat.opening; place = seat.place; before = h.0; users_before = p.0; first = done_before seat c.args.desk.now.users.seat p.1.marks } in
     let s = c.serve_piece.ensures in
     let going : (g.K.Link.state c.serve_piece.new.link).ended ≡ false = s.link.wrote.ended ∙ c.in-Bytes.ensures.read.ended in
     record {
       shelf = s.shelf ∙ (c.is_cancelled.ensures.shelf ∙ c.loop.invariant.shelf);
       seat = (s.seat.0 ∙ moved.here.seat_is.0, s.seat.1 ∙ moved.here.seat_is.1, s.seat.2 ∙ moved.here.seat_is.2, s.seat.3 ∙ moved.here.seat_is.3);
       users = (s.users.0 ∙ moved.here.users_are.0, s.users.1 ∙ moved.here.users_are.1, s.users.2 ∙ moved.here.users_are.2, s.users.3 ∙ moved.here.users_are.3);
-      session = record { before = h.0; users_before = p.0; saw = h.1; users_saw = p.1; attending = _; session = goes_stopped_is _ _ _ _ _ _ _ _ _ _ _ _ _ _ c.in-Err.is (moved_goes arc_value c.args.desk.now.attending.user g.K.Link.told g.C.Timestamps.told _ (g.K.Link.state c.serve_piece.new.link) (g.C.Timestamps.coming c.loop.clock) (g.C.Timestamps.coming c.serve_piece.new.clock) (now c.is_cancelled.new.desk) (now c.serve_piece.new.desk) false c.is_cancelled.new.desk.reader c.serve_piece.new.desk.reader c.serve_piece.result c.args.desk.now.shelf c.is_cancelled.new.desk.shelf c.args.desk.now.seat c.is_cancelled.new.desk.seat c.args.desk.now.users.seat c.is_cancelled.new.desk.users.seat _ [] (c.is_cancelled.ensures.shelf ∙ c.loop.invariant.shelf) moved.here.seat_is moved.here.users_are (c.serve_piece.ensures.goes c.args.desk.now.attending.user) _ _ b (refl, refl, refl, c.args.desk.now.same_place) (stands_piece _ _ _ _ _ _ _ _ _ _ _ _ _ _ (moved.here.stands b (refl, refl, refl, c.args.desk.now.same_place) h.1 p.1) c.in-Bytes.ensures.read (grind (arith, common_steps)))) };
+      session = record { before = h.0; users_before = p.0; saw = h.1; users_saw = p.1; attending = _; session = goes_stopped_is _ _ _ _ _ _ _ _ _ _ _ _ _ _ c.in-Err.is (moved_goes arc_value c.args.desk.now.attending.user g.K.Link.told g.C.Timestamps.told _ (g.K.Link.state c.serve_piece.new.link) (g.C.Timestamps.coming c.loop.clock) (g.C.Timestamps.coming c.serve_piece.new.clock) (now c.is_cancelled.new.desk) (now c.serve_piece.new.desk) false c.is_cancelled.new.desk.reader c.serve_piece.new.desk.reader c.serve_piece.result c.args.desk.now.shelf c.is_cancelled.new.desk.shelf c.args.desk.now.seat c.is_cancelled.new.desk.seat c.args.desk.now.users.seat c.is_cancelled.new.desk.users.seat _ [] (c.is_cancelled.ensures.shelf ∙ c.loop.invariant.shelf) moved.here.seat_is moved.here.users_are (c.serve_piece.ensures.goes c.args.desk.now.attending.user) _ _ b (refl, refl, refl, c.args.desk.now.same_place) (stands_piece _ _ _ _ _ _ _ _ _ _ _ _ _ _ (moved.here.stands b (refl, refl, refl, c.args.desk.now.same_place) h.1 p.1 (record { stamps_are = refl; users_stamps_are = refl; codes_are = p.1.codes_are })) c.in-Bytes.ensures.read (grind (arith, common_steps)))) };
       prompt = prompt_more (language_for c.args.desk.now.attending.user (arc_value c.args.desk.now.shelf)) g.K.Link.begun g.K.Link.told g.C.Timestamps.told (g.K.Link.state c.args.link.now) (g.C.Timestamps.coming c.args.clock.now) c.args.desk.now.seat c.args.desk.now.users.seat (g.K.Link.state c.loop.link) (g.K.Link.state c.serve_piece.new.link) _ (g.C.Timestamps.coming c.loop.clock) (now c.is_cancelled.new.desk) c.is_cancelled.new.desk.reader c.loop.invariant.prompt c.in-Bytes.ensures.begun moved.here.stands c.in-Bytes.ensures.read.reads s.link.wrote.reads;
-      heeds = λ limits. heeds_more (language_for c.args.desk.now.attending.user (arc_value c.args.desk.now.shelf)) g.K.Link.begun g.K.Link.told g.C.Timestamps.told (g.K.Link.state c.args.link.now) (g.C.Timestamps.coming c.args.clock.now) c.args.desk.now.seat c.args.desk.now.users.seat (g.K.Link.state c.loop.link) (g.K.Link.state c.serve_piece.new.link) _ (g.C.Timestamps.coming c.loop.clock) (now c.is_cancelled.new.desk) c.is_cancelled.new.desk.reader (c.loop.invariant.heeds limits) c.in-Bytes.ensures.begun (λ b at saw users. (moved.here.stands b at saw users, moved.unended c.if-is_cancelled.false limits b at saw users)) c.in-Bytes.ensures.read.reads s.link.wrote.reads;
-      timely = λ b at saw users.
-          timely_read (language_for c.args.desk.now.attending.user (arc_value c.args.desk.now.shelf)) (telling g.K.Link.told g.C.Timestamps.told g.C.Timestamps.stamped) (starting (g.K.Link.state c.args.link.now) (g.C.Timestamps.coming c.args.clock.now) b) (g.K.Link.state c.args.link.now) (g.K.Link.state c.loop.link) c.is_cancelled.new.desk.seat.seen c.is_cancelled.new.desk.users.seat.seen (moved.here.timely b at saw users) _ _ _ _ c.in-Bytes.ensures.read
+      heeds = λ limits. heeds_more (language_for c.args.desk.now.attending.user (arc_value c.args.desk.now.shelf)) g.K.Link.begun g.K.Link.told g.C.Timestamps.told (g.K.Link.state c.args.link.now) (g.C.Timestamps.coming c.args.clock.now) c.args.desk.now.seat c.args.desk.now.users.seat (g.K.Link.state c.loop.link) (g.K.Link.state c.serve_piece.new.link) _ (g.C.Timestamps.coming c.loop.clock) (now c.is_cancelled.new.desk) c.is_cancelled.new.desk.reader (c.loop.invariant.heeds limits) c.in-Bytes.ensures.begun (λ b at saw users first. (moved.here.stands b at saw users first, moved.unended c.if-is_cancelled.false limits b at saw users first)) c.in-Bytes.ensures.read.reads s.link.wrote.reads;
+      timely = λ b at saw users first.
+          timely_read (language_for c.args.desk.now.attending.user (arc_value c.args.desk.now.shelf)) (telling g.K.Link.told g.C.Timestamps.told g.C.Timestamps.stamped) (starting (g.K.Link.state c.args.link.now) (g.C.Timestamps.coming c.args.clock.now) b) (g.K.Link.state c.args.link.now) (g.K.Link.state c.loop.link) c.is_cancelled.new.desk.seat.seen c.is_cancelled.new.desk.users.seat.seen (moved.here.timely b at saw users first) _ _ _ _ c.in-Bytes.ensures.read
           (timely_moved arc_value (telling g.K.Link.told g.C.Timestamps.told g.C.Timestamps.stamped) (g.C.Timestamps.coming c.loop.clock) _ _ (in_hand c.is_cancelled.new.desk.attending false More c.is_cancelled.new.desk.reader _) c.args.desk.now.shelf c.is_cancelled.new.desk.shelf c.args.desk.now.seat c.is_cancelled.new.desk.seat c.args.desk.now.users.seat c.is_cancelled.new.desk.users.seat (c.is_cancelled.ensures.shelf ∙ c.loop.invariant.shelf) moved.here.seat_is moved.here.users_are c.serve_piece.ensures.timely c.args.desk.now.attending.user _ _ b at
-          (stands_piece _ _ _ _ _ _ _ _ _ _ _ _ _ _ (moved.here.stands b at saw users) c.in-Bytes.ensures.read (grind (arith, common_steps))))
+          (stands_piece _ _ _ _ _ _ _ _ _ _ _ _ _ _ (moved.here.stands b at saw users first) c.in-Bytes.ensures.read (grind (arith, common_steps))))
           (went_to g.K.Link.told b _ (g.K.Link.state c.serve_piece.new.link) c.is_cancelled.new.desk.seat c.is_cancelled.new.desk.users.seat (moved.here.seat_is.0 ∙ at.0, moved.here.seat_is.1 ∙ at.1, moved.here.users_are.0 ∙ at.2, moved.here.users_are.1 ∙ at.3) c.serve_piece.ensures.link _ _ _ c.serve_piece.ensures.asked);
       hung_up = s.hung_up ∙ c.in-Bytes.ensures.hung_up ∙ c.loop.invariant.hung_up;
       end = ((λ is. stop_no _ is refl), (λ ended. unheld _ going ended));
@@ -148,14 +148,14 @@ returns-in-Err g c =
 
 pub returns-in-End : goal.returns-in-End
 returns-in-End g c =
-    let moved = looked (language_for c.args.desk.now.attending.user (arc_value c.args.desk.now.shelf)) (telling g.K.Link.told g.C.Timestamps.told g.C.Timestamps.stamped) g.G.Gate.asked g.G.Gate.asked_on g.G.Gate.unasked (g.K.Link.state c.args.link.now) (g.K.Link.state c.loop.link) (g.C.Timestamps.coming c.args.clock.now) (g.C.Timestamps.coming c.loop.clock) c.args.desk.now.seat c.args.desk.now.users.seat c.args.gate.now c.loop.gate c.args.patience c.is_cancelled.result c.loop.desk.seat c.loop.desk.users.seat c.is_cancelled.new.desk.users.seat c.loop.desk.attending c.loop.desk.reader (record { seat_is = c.loop.invariant.seat; users_are = c.loop.invariant.users; stands = c.loop.invariant.stands; timely = c.loop.invariant.timely; entered = c.loop.invariant.asked }) c.is_cancelled.ensures.users c.is_cancelled.ensures.heeded c.is_cancelled.new.desk.seat c.is_cancelled.new.desk.attending c.is_cancelled.new.desk.reader c.is_cancelled.ensures.seat c.is_cancelled.ensures.attending c.is_cancelled.ensures.reader in
+    let moved = looked (language_for c.args.desk.now.attending.user (arc_value c.args.desk.now.shelf)) (telling g.K.Link.told g.C.Timestamps.told g.C.Timestamps.stamped) g.G.Gate.asked g.G.Gate.asked_on g.G.Gate.unasked (g.K.Link.state c.args.link.now) (g.K.Link.state c.loop.link) (g.C.Timestamps.coming c.args.clock.now) (g.C.Timestamps.coming c.loop.clock) c.args.desk.now.seat c.args.desk.now.users.seat c.args.gate.now c.loop.gate c.args.patience c.is_cancelled.result c.loop.desk.seat c.loop.desk.users.seat c.is_cancelled.new.desk.users.seat c.loop.desk.attending c.loop.desk.reader (record { seat_is = c.loop.invariant.seat; users_are = c.loop.invariant.users; stands = c.loop.invariant.stands; timely = c.loop.invariant.timely; entered = c.loop.invariant.asked }) c.is_cancelled.ensures.users c.is_cancelled.ensures.in_turn c.is_cancelled.ensures.heeded c.is_cancelled.new.desk.seat c.is_cancelled.new.desk.attending c.is_cancelled.new.desk.reader c.is_cancelled.ensures.seat c.is_cancelled.ensures.attending c.is_cancelled.ensures.reader in
     let idles_here = subst (λ (a : Attending). Idles (c.args.patience ≡ Limited) ((arc_value c.args.desk.now.shelf).idle) (language_for c.args.desk.now.attending.user (arc_value c.args.desk.now.shelf)) g.K.Link.begun g.K.Link.told g.C.Timestamps.told (g.K.Link.state c.args.link.now) (g.C.Timestamps.coming c.args.clock.now) c.args.desk.now.seat c.args.desk.now.users.seat (g.K.Link.state c.loop.link) a.user c.loop.counter c.loop.silent) (sym c.is_cancelled.ensures.attending) c.loop.invariant.idles in
     let noted_here = noted_beside (arc_value c.args.desk.now.shelf) (telling g.K.Link.told g.C.Timestamps.told g.C.Timestamps.stamped) (stood (g.K.Link.state c.args.link.now) (g.C.Timestamps.coming c.args.clock.now) c.args.desk.now.seat c.args.desk.now.users.seat c.args.desk.now.attending) (stood (g.K.Link.state c.loop.link) (g.C.Timestamps.coming c.loop.clock) c.loop.desk.seat c.loop.desk.users.seat c.loop.desk.attending) (stood (g.K.Link.state c.loop.link) (g.C.Timestamps.coming c.loop.clock) c.is_cancelled.new.desk.seat c.is_cancelled.new.desk.users.seat c.is_cancelled.new.desk.attending) (g.N.Notes.noted c.args.notes.now c.loop.notes) c.loop.invariant.noted (beside_look g.K.Link.told (g.K.Link.state c.loop.link) (g.C.Timestamps.coming c.loop.clock) c.args.patience c.is_cancelled.result c.loop.desk.seat c.is_cancelled.new.desk.seat c.loop.desk.users.seat c.is_cancelled.new.desk.users.seat c.loop.desk.attending c.is_cancelled.new.desk.attending c.is_cancelled.ensures.seat c.is_cancelled.ensures.users c.is_cancelled.ensures.heeded c.is_cancelled.ensures.attending) in
     let h = c.seen.ensures.history in
     let p = c.seen-2.ensures.history in
     let seat = c.args.desk.now.seat in
-    let b : Beginning = record { opening = seat.opening; users = c.args.desk.now.users.seat.opening; place = seat.place; before = h.0; users_before = p.0 } in
-    let stands = moved.here.stands b (refl, refl, refl, c.args.desk.now.same_place) h.1 p.1 in
+    let b : Beginning = record { opening = seat.opening; users = c.args.desk.now.users.seat.opening; place = seat.place; before = h.0; users_before = p.0; first = done_before seat c.args.desk.now.users.seat p.1.marks } in
+    let stands = moved.here.stands b (refl, refl, refl, c.args.desk.now.same_place) h.1 p.1 (record { stamps_are = refl; users_stamps_are = refl; codes_are = p.1.codes_are }) in
     record {
       shelf = (c.is_cancelled.ensures.shelf ∙ c.loop.invariant.shelf);
       hung_up = c.in-End.ensures.hung_up ∙ c.loop.invariant.hung_up;
@@ -163,8 +163,8 @@ returns-in-End g c =
       users = moved.here.users_are;
       session = record { before = h.0; users_before = p.0; saw = h.1; users_saw = p.1; attending = _; session = served_nothing _ _ _ _ _ _ _ _ _ _ _ _ _ stands c.in-End.ensures.read refl };
       prompt = prompt_more (language_for c.args.desk.now.attending.user (arc_value c.args.desk.now.shelf)) g.K.Link.begun g.K.Link.told g.C.Timestamps.told (g.K.Link.state c.args.link.now) (g.C.Timestamps.coming c.args.clock.now) c.args.desk.now.seat c.args.desk.now.users.seat (g.K.Link.state c.loop.link) (g.K.Link.state c.read.new.self) _ (g.C.Timestamps.coming c.loop.clock) (now c.is_cancelled.new.desk) c.is_cancelled.new.desk.reader c.loop.invariant.prompt c.in-End.ensures.begun moved.here.stands c.in-End.ensures.read.reads refl;
-      heeds = λ limits. heeds_more (language_for c.args.desk.now.attending.user (arc_value c.args.desk.now.shelf)) g.K.Link.begun g.K.Link.told g.C.Timestamps.told (g.K.Link.state c.args.link.now) (g.C.Timestamps.coming c.args.clock.now) c.args.desk.now.seat c.args.desk.now.users.seat (g.K.Link.state c.loop.link) (g.K.Link.state c.read.new.self) _ (g.C.Timestamps.coming c.loop.clock) (now c.is_cancelled.new.desk) c.is_cancelled.new.desk.reader (c.loop.invariant.heeds limits) c.in-End.ensures.begun (λ b at saw users. (moved.here.stands b at saw users, moved.unended c.if-is_cancelled.false limits b at saw users)) c.in-End.ensures.read.reads refl;
-      timely = λ b at saw users. timely_read (language_for c.args.desk.now.attending.user (arc_value c.args.desk.now.shelf)) (telling g.K.Link.told g.C.Timestamps.told g.C.Timestamps.stamped) (starting (g.K.Link.state c.args.link.now) (g.C.Timestamps.coming c.args.clock.now) b) (g.K.Link.state c.args.link.now) (g.K.Link.state c.loop.link) c.is_cancelled.new.desk.seat.seen c.is_cancelled.new.desk.users.seat.seen (moved.here.timely b at saw users) _ (g.K.Link.state c.read.new.self) _ _ c.in-End.ensures.read (timely_none (language_for c.args.desk.now.attending.user (arc_value c.args.desk.now.shelf)) (telling g.K.Link.told g.C.Timestamps.told g.C.Timestamps.stamped) (starting (g.K.Link.state c.args.link.now) (g.C.Timestamps.coming c.args.clock.now) b) (g.K.Link.state c.read.new.self) _ refl) (goes_nowhere g.K.Link.told b _);
+      heeds = λ limits. heeds_more (language_for c.args.desk.now.attending.user (arc_value c.args.desk.now.shelf)) g.K.Link.begun g.K.Link.told g.C.Timestamps.told (g.K.Link.state c.args.link.now) (g.C.Timestamps.coming c.args.clock.now) c.args.desk.now.seat c.args.desk.now.users.seat (g.K.Link.state c.loop.link) (g.K.Link.state c.read.new.self) _ (g.C.Timestamps.coming c.loop.clock) (now c.is_cancelled.new.desk) c.is_cancelled.new.desk.reader (c.loop.invariant.heeds limits) c.in-End.ensures.begun (λ b at saw users first. (moved.here.stands b at saw users first, moved.unended c.if-is_cancelled.false limits b at saw users first)) c.in-End.ensures.read.reads refl;
+      timely = λ b at saw users first. timely_read (language_for c.args.desk.now.attending.user (arc_value c.args.desk.now.shelf)) (telling g.K.Link.told g.C.Timestamps.told g.C.Timestamps.stamped) (starting (g.K.Link.state c.args.link.now) (g.C.Timestamps.coming c.args.clock.now) b) (g.K.Link.state c.args.link.now) (g.K.Link.state c.loop.link) c.is_cancelled.new.desk.seat.seen c.is_cancelled.new.desk.users.seat.seen (moved.here.timely b at saw users first) _ (g.K.Link.state c.read.new.self) _ _ c.in-End.ensures.read (timely_none (language_for c.args.desk.now.attending.user (arc_value c.args.desk.now.shelf)) (telling g.K.Link.told g.C.Timestamps.told g.C.Timestamps.stamped) (starting (g.K.Link.state c.args.link.now) (g.C.Timestamps.coming c.args.clock.now) b) (g.K.Link.state c.read.new.self) _ refl) (goes_nowhere g.K.Link.told b _);
       end = ((λ is. c.in-End.ensures.read.ended), (λ ended. refl));
       all_read = λ t is. c.in-End.ensures.read.end t refl;
       read_fault = λ is. end_no _ is refl;
@@ -188,14 +188,14 @@ returns-in-End g c =
 
 pub returns-in-Failed : goal.returns-in-Failed
 returns-in-Failed g c =
-    let moved = looked (language_for c.args.desk.now.attending.user (arc_value c.args.desk.now.shelf)) (telling g.K.Link.told g.C.Timestamps.told g.C.Timestamps.stamped) g.G.Gate.asked g.G.Gate.asked_on g.G.Gate.unasked (g.K.Link.state c.args.link.now) (g.K.Link.state c.loop.link) (g.C.Timestamps.coming c.args.clock.now) (g.C.Timestamps.coming c.loop.clock) c.args.desk.now.seat c.args.desk.now.users.seat c.args.gate.now c.loop.gate c.args.patience c.is_cancelled.result c.loop.desk.seat c.loop.desk.users.seat c.is_cancelled.new.desk.users.seat c.loop.desk.attending c.loop.desk.reader (record { seat_is = c.loop.invariant.seat; users_are = c.loop.invariant.users; stands = c.loop.invariant.stands; timely = c.loop.invariant.timely; entered = c.loop.invariant.asked }) c.is_cancelled.ensures.users c.is_cancelled.ensures.heeded c.is_cancelled.new.desk.seat c.is_cancelled.new.desk.attending c.is_cancelled.new.desk.reader c.is_cancelled.ensures.seat c.is_cancelled.ensures.attending c.is_cancelled.ensures.reader in
+    let moved = looked (language_for c.args.desk.now.attending.user (arc_value c.args.desk.now.shelf)) (telling g.K.Link.told g.C.Timestamps.told g.C.Timestamps.stamped) g.G.Gate.asked g.G.Gate.asked_on g.G.Gate.unasked (g.K.Link.state c.args.link.now) (g.K.Link.state c.loop.link) (g.C.Timestamps.coming c.args.clock.now) (g.C.Timestamps.coming c.loop.clock) c.args.desk.now.seat c.args.desk.now.users.seat c.args.gate.now c.loop.gate c.args.patience c.is_cancelled.result c.loop.desk.seat c.loop.desk.users.seat c.is_cancelled.new.desk.users.seat c.loop.desk.attending c.loop.desk.reader (record { seat_is = c.loop.invariant.seat; users_are = c.loop.invariant.users; stands = c.loop.invariant.stands; timely = c.loop.invariant.timely; entered = c.loop.invariant.asked }) c.is_cancelled.ensures.users c.is_cancelled.ensures.in_turn c.is_cancelled.ensures.heeded c.is_cancelled.new.desk.seat c.is_cancelled.new.desk.attending c.is_cancelled.new.desk.reader c.is_cancelled.ensures.seat c.is_cancelled.ensures.attending c.is_cancelled.ensures.reader in
     let idles_here = subst (λ (a : Attending). Idles (c.args.patience ≡ Limited) ((arc_value c.args.desk.now.shelf).idle) (language_for c.args.desk.now.attending.user (arc_value c.args.desk.now.shelf)) g.K.Link.begun g.K.Link.told g.C.Timestamps.told (g.K.Link.state c.args.link.now) (g.C.Timestamps.coming c.args.clock.now) c.args.desk.now.seat c.args.desk.now.users.seat (g.K.Link.state c.loop.link) a.user c.loop.counter c.loop.silent) (sym c.is_cancelled.ensures.attending) c.loop.invariant.idles in
     let noted_here = noted_beside (arc_value c.args.desk.now.shelf) (telling g.K.Link.told g.C.Timestamps.told g.C.Timestamps.stamped) (stood (g.K.Link.state c.args.link.now) (g.C.Timestamps.coming c.args.clock.now) c.args.desk.now.seat c.args.desk.now.users.seat c.args.desk.now.attending) (stood (g.K.Link.state c.loop.link) (g.C.Timestamps.coming c.loop.clock) c.loop.desk.seat c.loop.desk.users.seat c.loop.desk.attending) (stood (g.K.Link.state c.loop.link) (g.C.Timestamps.coming c.loop.clock) c.is_cancelled.new.desk.seat c.is_cancelled.new.desk.users.seat c.is_cancelled.new.desk.attending) (g.N.Notes.noted c.args.notes.now c.loop.notes) c.loop.invariant.noted (beside_look g.K.Link.told (g.K.Link.state c.loop.link) (g.C.Timestamps.coming c.loop.clock) c.args.patience c.is_cancelled.result c.loop.desk.seat c.is_cancelled.new.desk.seat c.loop.desk.users.seat c.is_cancelled.new.desk.users.seat c.loop.desk.attending c.is_cancelled.new.desk.attending c.is_cancelled.ensures.seat c.is_cancelled.ensures.users c.is_cancelled.ensures.heeded c.is_cancelled.ensures.attending) in
     let h = c.seen.ensures.history in
     let p = c.seen-2.ensures.history in
     let seat = c.args.desk.now.seat in
-    let b : Beginning = record { opening = seat.opening; users = c.args.desk.now.users.seat.opening; place = seat.place; before = h.0; users_before = p.0 } in
-    let stands = moved.here.stands b (refl, refl, refl, c.args.desk.now.same_place) h.1 p.1 in
+    let b : Beginning = record { opening = seat.opening; users = c.args.desk.now.users.seat.opening; place = seat.place; before = h.0; users_before = p.0; first = done_before seat c.args.desk.now.users.seat p.1.marks } in
+    let stands = moved.here.stands b (refl, refl, refl, c.args.desk.now.same_place) h.1 p.1 (record { stamps_are = refl; users_stamps_are = refl; codes_are = p.1.codes_are }) in
     record {
       shelf = (c.is_cancelled.ensures.shelf ∙ c.loop.invariant.shelf);
       hung_up = c.in-Failed.ensures.hung_up ∙ c.loop.invariant.hung_up;
@@ -203,8 +203,8 @@ returns-in-Failed g c =
       users = moved.here.users_are;
       session = record { before = h.0; users_before = p.0; saw = h.1; users_saw = p.1; attending = _; session = served_nothing _ _ _ _ _ _ _ _ _ _ _ _ _ stands c.in-Failed.ensures.read refl };
       prompt = prompt_more (language_for c.args.desk.now.attending.user (arc_value c.args.desk.now.shelf)) g.K.Link.begun g.K.Link.told g.C.Timestamps.told (g.K.Link.state c.args.link.now) (g.C.Timestamps.coming c.args.clock.now) c.args.desk.now.seat c.args.desk.now.users.seat (g.K.Link.state c.loop.link) (g.K.Link.state c.read.new.self) _ (g.C.Timestamps.coming c.loop.clock) (now c.is_cancelled.new.desk) c.is_cancelled.new.desk.reader c.loop.invariant.prompt c.in-Failed.ensures.begun moved.here.stands c.in-Failed.ensures.read.reads refl;
-      heeds = λ limits. heeds_more (language_for c.args.desk.now.attending.user (arc_value c.args.desk.now.shelf)) g.K.Link.begun g.K.Link.told g.C.Timestamps.told (g.K.Link.state c.args.link.now) (g.C.Timestamps.coming c.args.clock.now) c.args.desk.now.seat c.args.desk.now.users.seat (g.K.Link.state c.loop.link) (g.K.Link.state c.read.new.self) _ (g.C.Timestamps.coming c.loop.clock) (now c.is_cancelled.new.desk) c.is_cancelled.new.desk.reader (c.loop.invariant.heeds limits) c.in-Failed.ensures.begun (λ b at saw users. (moved.here.stands b at saw users, moved.unended c.if-is_cancelled.false limits b at saw users)) c.in-Failed.ensures.read.reads refl;
-      timely = λ b at saw users. timely_read (language_for c.args.desk.now.attending.user (arc_value c.args.desk.now.shelf)) (telling g.K.Link.told g.C.Timestamps.told g.C.Timestamps.stamped) (starting (g.K.Link.state c.args.link.now) (g.C.Timestamps.coming c.args.clock.now) b) (g.K.Link.state c.args.link.now) (g.K.Link.state c.loop.link) c.is_cancelled.new.desk.seat.seen c.is_cancelled.new.desk.users.seat.seen (moved.here.timely b at saw users) _ (g.K.Link.state c.read.new.self) _ _ c.in-Failed.ensures.read (timely_none (language_for c.args.desk.now.attending.user (arc_value c.args.desk.now.shelf)) (telling g.K.Link.told g.C.Timestamps.told g.C.Timestamps.stamped) (starting (g.K.Link.state c.args.link.now) (g.C.Timestamps.coming c.args.clock.now) b) (g.K.Link.state c.read.new.self) _ refl) (goes_nowhere g.K.Link.told b _);
+      heeds = λ limits. heeds_more (language_for c.args.desk.now.attending.user (arc_value c.args.desk.now.shelf)) g.K.Link.begun g.K.Link.told g.C.Timestamps.told (g.K.Link.state c.args.link.now) (g.C.Timestamps.coming c.args.clock.now) c.args.desk.now.seat c.args.desk.now.users.seat (g.K.Link.state c.loop.link) (g.K.Link.state c.read.new.self) _ (g.C.Timestamps.coming c.loop.clock) (now c.is_cancelled.new.desk) c.is_cancelled.new.desk.reader (c.loop.invariant.heeds limits) c.in-Failed.ensures.begun (λ b at saw users first. (moved.here.stands b at saw users first, moved.unended c.if-is_cancelled.false limits b at saw users first)) c.in-Failed.ensures.read.reads refl;
+      timely = λ b at saw users first. timely_read (language_for c.args.desk.now.attending.user (arc_value c.args.desk.now.shelf)) (telling g.K.Link.told g.C.Timestamps.told g.C.Timestamps.stamped) (starting (g.K.Link.state c.args.link.now) (g.C.Timestamps.coming c.args.clock.now) b) (g.K.Link.state c.args.link.now) (g.K.Link.state c.loop.link) c.is_cancelled.new.desk.seat.seen c.is_cancelled.new.desk.users.seat.seen (moved.here.timely b at saw users first) _ (g.K.Link.state c.read.new.self) _ _ c.in-Failed.ensures.read (timely_none (language_for c.args.desk.now.attending.user (arc_value c.args.desk.now.shelf)) (telling g.K.Link.told g.C.Timestamps.told g.C.Timestamps.stamped) (starting (g.K.Link.state c.args.link.now) (g.C.Timestamps.coming c.args.clock.now) b) (g.K.Link.state c.read.new.self) _ refl) (goes_nowhere g.K.Link.told b _);
       end = ((λ is. read_no _ is refl), (λ ended. unheld _ c.in-Failed.ensures.read.ended ended));
       all_read = λ t is. read_no _ is refl;
       read_fault = λ is. rose_later _ _ _ stands.exchanged.read_later (c.in-Failed.ensures.read.cause.cause refl);
@@ -231,12 +231,12 @@ returns-clause-session g c =
     let h = c.seen.ensures.history in
     let p = c.seen-2.ensures.history in
     let seat = c.args.desk.now.seat in
-    let b : Beginning = record { opening = seat.opening; users = c.args.desk.now.users.seat.opening; place = seat.place; before = h.0; users_before = p.0 } in
-    record { before = h.0; users_before = p.0; saw = h.1; users_saw = p.1; attending = _; session = served_here _ _ _ _ _ _ _ _ _ _ (c.loop.invariant.stands b (refl, refl, refl, c.args.desk.now.same_place) h.1 p.1) }
+    let b : Beginning = record { opening = seat.opening; users = c.args.desk.now.users.seat.opening; place = seat.place; before = h.0; users_before = p.0; first = done_before seat c.args.desk.now.users.seat p.1.marks } in
+    record { before = h.0; users_before = p.0; saw = h.1; users_saw = p.1; attending = _; session = served_here _ _ _ _ _ _ _ _ _ _ (c.loop.invariant.stands b (refl, refl, refl, c.args.desk.now.same_place) h.1 p.1 (record { stamps_are = refl; users_stamps_are = refl; codes_are = p.1.codes_are })) }
 
 pub loop-preserved : goal.loop-preserved
 loop-preserved g c =
-    let moved = looked (language_for c.args.desk.now.attending.user (arc_value c.args.desk.now.shelf)) (telling g.K.Link.told g.C.Timestamps.told g.C.Timestamps.stamped) g.G.Gate.asked g.G.Gate.asked_on g.G.Gate.unasked (g.K.Link.state c.args.link.now) (g.K.Link.state c.loop.link) (g.C.Timestamps.coming c.args.clock.now) (g.C.Timestamps.coming c.loop.clock) c.args.desk.now.seat c.args.desk.now.users.seat c.args.gate.now c.loop.gate c.args.patience c.is_cancelled.result c.loop.desk.seat c.loop.desk.users.seat c.is_cancelled.new.desk.users.seat c.loop.desk.attending c.loop.desk.reader (record { seat_is = c.loop.invariant.seat; users_are = c.loop.invariant.users; stands = c.loop.invariant.stands; timely = c.loop.invariant.timely; entered = c.loop.invariant.asked }) c.is_cancelled.ensures.users c.is_cancelled.ensures.heeded c.is_cancelled.new.desk.seat c.is_cancelled.new.desk.attending c.is_cancelled.new.desk.reader c.is_cancelled.ensures.seat c.is_cancelled.ensures.attending c.is_cancelled.ensures.reader in
+    let moved = looked (language_for c.args.desk.now.attending.user (arc_value c.args.desk.now.shelf)) (telling g.K.Link.told g.C.Timestamps.told g.C.Timestamps.stamped) g.G.Gate.asked g.G.Gate.asked_on g.G.Gate.unasked (g.K.Link.state c.args.link.now) (g.K.Link.state c.loop.link) (g.C.Timestamps.coming c.args.clock.now) (g.C.Timestamps.coming c.loop.clock) c.args.desk.now.seat c.args.desk.now.users.seat c.args.gate.now c.loop.gate c.args.patience c.is_cancelled.result c.loop.desk.seat c.loop.desk.users.seat c.is_cancelled.new.desk.users.seat c.loop.desk.attending c.loop.desk.reader (record { seat_is = c.loop.invariant.seat; users_are = c.loop.invariant.users; stands = c.loop.invariant.stands; timely = c.loop.invariant.timely; entered = c.loop.invariant.asked }) c.is_cancelled.ensures.users c.is_cancelled.ensures.in_turn c.is_cancelled.ensures.heeded c.is_cancelled.new.desk.seat c.is_cancelled.new.desk.attending c.is_cancelled.new.desk.reader c.is_cancelled.ensures.seat c.is_cancelled.ensures.attending c.is_cancelled.ensures.reader in
     let idles_here = subst (λ (a : Attending). Idles (c.args.patience ≡ Limited) ((arc_value c.args.desk.now.shelf).idle) (language_for c.args.desk.now.attending.user (arc_value c.args.desk.now.shelf)) g.K.Link.begun g.K.Link.told g.C.Timestamps.told (g.K.Link.state c.args.link.now) (g.C.Timestamps.coming c.args.clock.now) c.args.desk.now.seat c.args.desk.now.users.seat (g.K.Link.state c.loop.link) a.user c.loop.counter c.loop.silent) (sym c.is_cancelled.ensures.attending) c.loop.invariant.idles in
     let noted_here = noted_beside (arc_value c.args.desk.now.shelf) (telling g.K.Link.told g.C.Timestamps.told g.C.Timestamps.stamped) (stood (g.K.Link.state c.args.link.now) (g.C.Timestamps.coming c.args.clock.now) c.args.desk.now.seat c.args.desk.now.users.seat c.args.desk.now.attending) (stood (g.K.Link.state c.loop.link) (g.C.Timestamps.coming c.loop.clock) c.loop.desk.seat c.loop.desk.users.seat c.loop.desk.attending) (stood (g.K.Link.state c.loop.link) (g.C.Timestamps.coming c.loop.clock) c.is_cancelled.new.desk.seat c.is_cancelled.new.desk.users.seat c.is_cancelled.new.desk.attending) (g.N.Notes.noted c.args.notes.now c.loop.notes) c.loop.invariant.noted (beside_look g.K.Link.told (g.K.Link.state c.loop.link) (g.C.Timestamps.coming c.loop.clock) c.args.patience c.is_cancelled.result c.loop.desk.seat c.is_cancelled.new.desk.seat c.loop.desk.users.seat c.is_cancelled.new.desk.users.seat c.loop.desk.attending c.is_cancelled.new.desk.attending c.is_cancelled.ensures.seat c.is_cancelled.ensures.users c.is_cancelled.ensures.heeded c.is_cancelled.ensures.attending) in
     elim c.match-read.branch [
@@ -244,13 +244,13 @@ loop-preserved g c =
         shelf = w.serve_piece.ensures.shelf ∙ (c.is_cancelled.ensures.shelf ∙ c.loop.invariant.shelf);
         seat = (w.serve_piece.ensures.seat.0 ∙ moved.here.seat_is.0, w.serve_piece.ensures.seat.1 ∙ moved.here.seat_is.1, w.serve_piece.ensures.seat.2 ∙ moved.here.seat_is.2, w.serve_piece.ensures.seat.3 ∙ moved.here.seat_is.3);
         users = (w.serve_piece.ensures.users.0 ∙ moved.here.users_are.0, w.serve_piece.ensures.users.1 ∙ moved.here.users_are.1, w.serve_piece.ensures.users.2 ∙ moved.here.users_are.2, w.serve_piece.ensures.users.3 ∙ moved.here.users_are.3);
-        stands = λ b at saw users. goes_on_is _ _ _ _ _ _ _ _ _ _ _ _ (w.in-Ok-On.is ∙ ap (λ (p : Progress). Ok p) w.in-Ok-On.field-0-is) (moved_goes arc_value c.args.desk.now.attending.user g.K.Link.told g.C.Timestamps.told _ (g.K.Link.state w.serve_piece.new.link) (g.C.Timestamps.coming c.loop.clock) (g.C.Timestamps.coming w.serve_piece.new.clock) (now c.is_cancelled.new.desk) (now w.serve_piece.new.desk) false c.is_cancelled.new.desk.reader w.serve_piece.new.desk.reader w.serve_piece.result c.args.desk.now.shelf c.is_cancelled.new.desk.shelf c.args.desk.now.seat c.is_cancelled.new.desk.seat c.args.desk.now.users.seat c.is_cancelled.new.desk.users.seat _ [] (c.is_cancelled.ensures.shelf ∙ c.loop.invariant.shelf) moved.here.seat_is moved.here.users_are (w.serve_piece.ensures.goes c.args.desk.now.attending.user) _ _ b at (stands_piece _ _ _ _ _ _ _ _ _ _ _ _ _ _ (moved.here.stands b at saw users) w.in-Bytes.ensures.read (grind (arith, common_steps))));
+        stands = λ b at saw users first. goes_on_is _ _ _ _ _ _ _ _ _ _ _ _ (w.in-Ok-On.is ∙ ap (λ (p : Progress). Ok p) w.in-Ok-On.field-0-is) (moved_goes arc_value c.args.desk.now.attending.user g.K.Link.told g.C.Timestamps.told _ (g.K.Link.state w.serve_piece.new.link) (g.C.Timestamps.coming c.loop.clock) (g.C.Timestamps.coming w.serve_piece.new.clock) (now c.is_cancelled.new.desk) (now w.serve_piece.new.desk) false c.is_cancelled.new.desk.reader w.serve_piece.new.desk.reader w.serve_piece.result c.args.desk.now.shelf c.is_cancelled.new.desk.shelf c.args.desk.now.seat c.is_cancelled.new.desk.seat c.args.desk.now.users.seat c.is_cancelled.new.desk.users.seat _ [] (c.is_cancelled.ensures.shelf ∙ c.loop.invariant.shelf) moved.here.seat_is moved.here.users_are (w.serve_piece.ensures.goes c.args.desk.now.attending.user) _ _ b at (stands_piece _ _ _ _ _ _ _ _ _ _ _ _ _ _ (moved.here.stands b at saw users first) w.in-Bytes.ensures.read (grind (arith, common_steps))));
         prompt = prompt_more (language_for c.args.desk.now.attending.user (arc_value c.args.desk.now.shelf)) g.K.Link.begun g.K.Link.told g.C.Timestamps.told (g.K.Link.state c.args.link.now) (g.C.Timestamps.coming c.args.clock.now) c.args.desk.now.seat c.args.desk.now.users.seat (g.K.Link.state c.loop.link) (g.K.Link.state w.serve_piece.new.link) _ (g.C.Timestamps.coming c.loop.clock) (now c.is_cancelled.new.desk) c.is_cancelled.new.desk.reader c.loop.invariant.prompt w.in-Bytes.ensures.begun moved.here.stands w.in-Bytes.ensures.read.reads w.serve_piece.ensures.link.wrote.reads;
-        heeds = λ limits. heeds_more (language_for c.args.desk.now.attending.user (arc_value c.args.desk.now.shelf)) g.K.Link.begun g.K.Link.told g.C.Timestamps.told (g.K.Link.state c.args.link.now) (g.C.Timestamps.coming c.args.clock.now) c.args.desk.now.seat c.args.desk.now.users.seat (g.K.Link.state c.loop.link) (g.K.Link.state w.serve_piece.new.link) _ (g.C.Timestamps.coming c.loop.clock) (now c.is_cancelled.new.desk) c.is_cancelled.new.desk.reader (c.loop.invariant.heeds limits) w.in-Bytes.ensures.begun (λ b at saw users. (moved.here.stands b at saw users, moved.unended c.if-is_cancelled.false limits b at saw users)) w.in-Bytes.ensures.read.reads w.serve_piece.ensures.link.wrote.reads;
-        timely = λ b at saw users.
-            timely_read (language_for c.args.desk.now.attending.user (arc_value c.args.desk.now.shelf)) (telling g.K.Link.told g.C.Timestamps.told g.C.Timestamps.stamped) (starting (g.K.Link.state c.args.link.now) (g.C.Timestamps.coming c.args.clock.now) b) (g.K.Link.state c.args.link.now) (g.K.Link.state c.loop.link) c.is_cancelled.new.desk.seat.seen c.is_cancelled.new.desk.users.seat.seen (moved.here.timely b at saw users) _ _ _ _ w.in-Bytes.ensures.read
+        heeds = λ limits. heeds_more (language_for c.args.desk.now.attending.user (arc_value c.args.desk.now.shelf)) g.K.Link.begun g.K.Link.told g.C.Timestamps.told (g.K.Link.state c.args.link.now) (g.C.Timestamps.coming c.args.clock.now) c.args.desk.now.seat c.args.desk.now.users.seat (g.K.Link.state c.loop.link) (g.K.Link.state w.serve_piece.new.link) _ (g.C.Timestamps.coming c.loop.clock) (now c.is_cancelled.new.desk) c.is_cancelled.new.desk.reader (c.loop.invariant.heeds limits) w.in-Bytes.ensures.begun (λ b at saw users first. (moved.here.stands b at saw users first, moved.unended c.if-is_cancelled.false limits b at saw users first)) w.in-Bytes.ensures.read.reads w.serve_piece.ensures.link.wrote.reads;
+        timely = λ b at saw users first.
+            timely_read (language_for c.args.desk.now.attending.user (arc_value c.args.desk.now.shelf)) (telling g.K.Link.told g.C.Timestamps.told g.C.Timestamps.stamped) (starting (g.K.Link.state c.args.link.now) (g.C.Timestamps.coming c.args.clock.now) b) (g.K.Link.state c.args.link.now) (g.K.Link.state c.loop.link) c.is_cancelled.new.desk.seat.seen c.is_cancelled.new.desk.users.seat.seen (moved.here.timely b at saw users first) _ _ _ _ w.in-Bytes.ensures.read
             (timely_moved arc_value (telling g.K.Link.told g.C.Timestamps.told g.C.Timestamps.stamped) (g.C.Timestamps.coming c.loop.clock) _ _ (in_hand c.is_cancelled.new.desk.attending false More c.is_cancelled.new.desk.reader _) c.args.desk.now.shelf c.is_cancelled.new.desk.shelf c.args.desk.now.seat c.is_cancelled.new.desk.seat c.args.desk.now.users.seat c.is_cancelled.new.desk.users.seat (c.is_cancelled.ensures.shelf ∙ c.loop.invariant.shelf) moved.here.seat_is moved.here.users_are w.serve_piece.ensures.timely c.args.desk.now.attending.user _ _ b at
-            (stands_piece _ _ _ _ _ _ _ _ _ _ _ _ _ _ (moved.here.stands b at saw users) w.in-Bytes.ensures.read (grind (arith, common_steps))))
+            (stands_piece _ _ _ _ _ _ _ _ _ _ _ _ _ _ (moved.here.stands b at saw users first) w.in-Bytes.ensures.read (grind (arith, common_steps))))
             (went_to g.K.Link.told b _ (g.K.Link.state w.serve_piece.new.link) c.is_cancelled.new.desk.seat c.is_cancelled.new.desk.users.seat (moved.here.seat_is.0 ∙ at.0, moved.here.seat_is.1 ∙ at.1, moved.here.users_are.0 ∙ at.2, moved.here.users_are.1 ∙ at.3) w.serve_piece.ensures.link _ _ _ w.serve_piece.ensures.asked);
         gate = stayed_ok On w.serve_piece.result _ _ (w.in-Ok-On.is ∙ ap (λ (p : Progress). Ok p) w.in-Ok-On.field-0-is) w.serve_piece.ensures.stopped ∙ c.loop.invariant.gate;
         counted = rw w.serve_piece.ensures.link.wrote.reads (counted_more _ _ _ _ c.loop.invariant.counted w.in-Bytes.ensures.read.reads);
@@ -268,14 +268,14 @@ loop-preserved g c =
         shelf = w.report.ensures.shelf ∙ (c.is_cancelled.ensures.shelf ∙ c.loop.invariant.shelf);
         seat = (w.report.ensures.seat.0 ∙ moved.here.seat_is.0, w.report.ensures.seat.1 ∙ moved.here.seat_is.1, w.report.ensures.seat.2 ∙ moved.here.seat_is.2, w.report.ensures.seat.3 ∙ moved.here.seat_is.3);
         users = (ap (λ (u : UserDesk g.row.U.Denot). u.seat.opening) w.report.ensures.users ∙ moved.here.users_are.0, ap (λ (u : UserDesk g.row.U.Denot). u.seat.place) w.report.ensures.users ∙ moved.here.users_are.1, ap (λ (u : UserDesk g.row.U.Denot). u.seat.places) w.report.ensures.users ∙ moved.here.users_are.2, ap (λ (u : UserDesk g.row.U.Denot). u.seat.turnstile) w.report.ensures.users ∙ moved.here.users_are.3);
-        stands = λ b at saw users. subst (λ (r : Reader). Stands (language_for c.args.desk.now.attending.user (arc_value c.args.desk.now.shelf)) g.K.Link.told g.C.Timestamps.told (g.K.Link.state c.args.link.now) (g.K.Link.state w.report.new.link) (g.C.Timestamps.coming c.args.clock.now) (g.C.Timestamps.coming w.report.new.clock) b (now w.report.new.desk) false More r []) (sym w.report.ensures.reader)
-            (goes_on_is _ _ _ _ _ _ _ _ _ _ _ _ (ap (λ (p : Progress). Ok p) w.in-On.is) (moved_goes arc_value c.args.desk.now.attending.user g.K.Link.told g.C.Timestamps.told _ (g.K.Link.state w.report.new.link) (g.C.Timestamps.coming c.loop.clock) (g.C.Timestamps.coming w.report.new.clock) (now c.is_cancelled.new.desk) (now w.report.new.desk) (is_some c.is_cancelled.new.desk.attending.watch) c.is_cancelled.new.desk.reader c.is_cancelled.new.desk.reader (Ok w.report.result) c.args.desk.now.shelf c.is_cancelled.new.desk.shelf c.args.desk.now.seat c.is_cancelled.new.desk.seat c.args.desk.now.users.seat c.is_cancelled.new.desk.users.seat [] [] (c.is_cancelled.ensures.shelf ∙ c.loop.invariant.shelf) moved.here.seat_is moved.here.users_are (λ k c1 b1. w.report.ensures.goes c.is_cancelled.new.desk.reader [] c.args.desk.now.attending.user k c1 b1) _ _ b at (stands_quiet _ _ _ _ _ _ _ _ _ _ _ _ (moved.here.stands b at saw users) w.in-Quiet.ensures.read)));
+        stands = λ b at saw users first. subst (λ (r : Reader). Stands (language_for c.args.desk.now.attending.user (arc_value c.args.desk.now.shelf)) g.K.Link.told g.C.Timestamps.told (g.K.Link.state c.args.link.now) (g.K.Link.state w.report.new.link) (g.C.Timestamps.coming c.args.clock.now) (g.C.Timestamps.coming w.report.new.clock) b (now w.report.new.desk) false More r []) (sym w.report.ensures.reader)
+            (goes_on_is _ _ _ _ _ _ _ _ _ _ _ _ (ap (λ (p : Progress). Ok p) w.in-On.is) (moved_goes arc_value c.args.desk.now.attending.user g.K.Link.told g.C.Timestamps.told _ (g.K.Link.state w.report.new.link) (g.C.Timestamps.coming c.loop.clock) (g.C.Timestamps.coming w.report.new.clock) (now c.is_cancelled.new.desk) (now w.report.new.desk) (is_some c.is_cancelled.new.desk.attending.watch) c.is_cancelled.new.desk.reader c.is_cancelled.new.desk.reader (Ok w.report.result) c.args.desk.now.shelf c.is_cancelled.new.desk.shelf c.args.desk.now.seat c.is_cancelled.new.desk.seat c.args.desk.now.users.seat c.is_cancelled.new.desk.users.seat [] [] (c.is_cancelled.ensures.shelf ∙ c.loop.invariant.shelf) moved.here.seat_is moved.here.users_are (λ k c1 b1. w.report.ensures.goes c.is_cancelled.new.desk.reader [] c.args.desk.now.attending.user k c1 b1) _ _ b at (stands_quiet _ _ _ _ _ _ _ _ _ _ _ _ (moved.here.stands b at saw users first) w.in-Quiet.ensures.read)));
         prompt = prompt_more (language_for c.args.desk.now.attending.user (arc_value c.args.desk.now.shelf)) g.K.Link.begun g.K.Link.told g.C.Timestamps.told (g.K.Link.state c.args.link.now) (g.C.Timestamps.coming c.args.clock.now) c.args.desk.now.seat c.args.desk.now.users.seat (g.K.Link.state c.loop.link) (g.K.Link.state w.report.new.link) _ (g.C.Timestamps.coming c.loop.clock) (now c.is_cancelled.new.desk) c.is_cancelled.new.desk.reader c.loop.invariant.prompt w.in-Quiet.ensures.begun moved.here.stands w.in-Quiet.ensures.read.reads w.report.ensures.link.wrote.reads;
-        heeds = λ limits. heeds_more (language_for c.args.desk.now.attending.user (arc_value c.args.desk.now.shelf)) g.K.Link.begun g.K.Link.told g.C.Timestamps.told (g.K.Link.state c.args.link.now) (g.C.Timestamps.coming c.args.clock.now) c.args.desk.now.seat c.args.desk.now.users.seat (g.K.Link.state c.loop.link) (g.K.Link.state w.report.new.link) _ (g.C.Timestamps.coming c.loop.clock) (now c.is_cancelled.new.desk) c.is_cancelled.new.desk.reader (c.loop.invariant.heeds limits) w.in-Quiet.ensures.begun (λ b at saw users. (moved.here.stands b at saw users, moved.unended c.if-is_cancelled.false limits b at saw users)) w.in-Quiet.ensures.read.reads w.report.ensures.link.wrote.reads;
-        timely = λ b at saw users.
-            timely_read (language_for c.args.desk.now.attending.user (arc_value c.args.desk.now.shelf)) (telling g.K.Link.told g.C.Timestamps.told g.C.Timestamps.stamped) (starting (g.K.Link.state c.args.link.now) (g.C.Timestamps.coming c.args.clock.now) b) (g.K.Link.state c.args.link.now) (g.K.Link.state c.loop.link) c.is_cancelled.new.desk.seat.seen c.is_cancelled.new.desk.users.seat.seen (moved.here.timely b at saw users) _ _ _ _ w.in-Quiet.ensures.read
+        heeds = λ limits. heeds_more (language_for c.args.desk.now.attending.user (arc_value c.args.desk.now.shelf)) g.K.Link.begun g.K.Link.told g.C.Timestamps.told (g.K.Link.state c.args.link.now) (g.C.Timestamps.coming c.args.clock.now) c.args.desk.now.seat c.args.desk.now.users.seat (g.K.Link.state c.loop.link) (g.K.Link.state w.report.new.link) _ (g.C.Timestamps.coming c.loop.clock) (now c.is_cancelled.new.desk) c.is_cancelled.new.desk.reader (c.loop.invariant.heeds limits) w.in-Quiet.ensures.begun (λ b at saw users first. (moved.here.stands b at saw users first, moved.unended c.if-is_cancelled.false limits b at saw users first)) w.in-Quiet.ensures.read.reads w.report.ensures.link.wrote.reads;
+        timely = λ b at saw users first.
+            timely_read (language_for c.args.desk.now.attending.user (arc_value c.args.desk.now.shelf)) (telling g.K.Link.told g.C.Timestamps.told g.C.Timestamps.stamped) (starting (g.K.Link.state c.args.link.now) (g.C.Timestamps.coming c.args.clock.now) b) (g.K.Link.state c.args.link.now) (g.K.Link.state c.loop.link) c.is_cancelled.new.desk.seat.seen c.is_cancelled.new.desk.users.seat.seen (moved.here.timely b at saw users first) _ _ _ _ w.in-Quiet.ensures.read
             (timely_moved arc_value (telling g.K.Link.told g.C.Timestamps.told g.C.Timestamps.stamped) (g.C.Timestamps.coming c.loop.clock) _ _ (in_hand c.is_cancelled.new.desk.attending (is_some c.is_cancelled.new.desk.attending.watch) More c.is_cancelled.new.desk.reader []) c.args.desk.now.shelf c.is_cancelled.new.desk.shelf c.args.desk.now.seat c.is_cancelled.new.desk.seat c.args.desk.now.users.seat c.is_cancelled.new.desk.users.seat (c.is_cancelled.ensures.shelf ∙ c.loop.invariant.shelf) moved.here.seat_is moved.here.users_are (w.report.ensures.timely c.is_cancelled.new.desk.reader []) c.args.desk.now.attending.user _ _ b at
-            (stands_quiet _ _ _ _ _ _ _ _ _ _ _ _ (moved.here.stands b at saw users) w.in-Quiet.ensures.read))
+            (stands_quiet _ _ _ _ _ _ _ _ _ _ _ _ (moved.here.stands b at saw users first) w.in-Quiet.ensures.read))
             (looked_to g.K.Link.told b _ (g.K.Link.state w.report.new.link) c.is_cancelled.new.desk.seat c.is_cancelled.new.desk.users.seat (moved.here.seat_is.0 ∙ at.0, moved.here.seat_is.1 ∙ at.1, moved.here.users_are.0 ∙ at.2, moved.here.users_are.1 ∙ at.3) w.report.ensures.link _ _ (ap (λ (u : UserDesk g.row.U.Denot). u.seat.seen) w.report.ensures.users) w.report.ensures.entered);
         gate = c.loop.invariant.gate;
         counted = rw w.report.ensures.link.wrote.reads (counted_more _ _ _ _ c.loop.invariant.counted w.in-Quiet.ensures.read.reads);
@@ -293,16 +293,16 @@ loop-preserved g c =
 
 pub returns-in-Cut : goal.returns-in-Cut
 returns-in-Cut g c =
-    let moved = looked (language_for c.args.desk.now.attending.user (arc_value c.args.desk.now.shelf)) (telling g.K.Link.told g.C.Timestamps.told g.C.Timestamps.stamped) g.G.Gate.asked g.G.Gate.asked_on g.G.Gate.unasked (g.K.Link.state c.args.link.now) (g.K.Link.state c.loop.link) (g.C.Timestamps.coming c.args.clock.now) (g.C.Timestamps.coming c.loop.clock) c.args.desk.now.seat c.args.desk.now.users.seat c.args.gate.now c.loop.gate c.args.patience c.is_cancelled.result c.loop.desk.seat c.loop.desk.users.seat c.is_cancelled.new.desk.users.seat c.loop.desk.attending c.loop.desk.reader (record { seat_is = c.loop.invariant.seat; users_are = c.loop.invariant.users; stands = c.loop.invariant.stands; timely = c.loop.invariant.timely; entered = c.loop.invariant.asked }) c.is_cancelled.ensures.users c.is_cancelled.ensures.heeded c.is_cancelled.new.desk.seat c.is_cancelled.new.desk.attending c.is_cancelled.new.desk.reader c.is_cancelled.ensures.seat c.is_cancelled.ensures.attending c.is_cancelled.ensures.reader in
+    let moved = looked (language_for c.args.desk.now.attending.user (arc_value c.args.desk.now.shelf)) (telling g.K.Link.told g.C.Timestamps.told g.C.Timestamps.stamped) g.G.Gate.asked g.G.Gate.asked_on g.G.Gate.unasked (g.K.Link.state c.args.link.now) (g.K.Link.state c.loop.link) (g.C.Timestamps.coming c.args.clock.now) (g.C.Timestamps.coming c.loop.clock) c.args.desk.now.seat c.args.desk.now.users.seat c.args.gate.now c.loop.gate c.args.patience c.is_cancelled.result c.loop.desk.seat c.loop.desk.users.seat c.is_cancelled.new.desk.users.seat c.loop.desk.attending c.loop.desk.reader (record { seat_is = c.loop.invariant.seat; users_are = c.loop.invariant.users; stands = c.loop.invariant.stands; timely = c.loop.invariant.timely; entered = c.loop.invariant.asked }) c.is_cancelled.ensures.users c.is_cancelled.ensures.in_turn c.is_cancelled.ensures.heeded c.is_cancelled.new.desk.seat c.is_cancelled.new.desk.attending c.is_cancelled.new.desk.reader c.is_cancelled.ensures.seat c.is_cancelled.ensures.attending c.is_cancelled.ensures.reader in
     let idles_here = subst (λ (a : Attending). Idles (c.args.patience ≡ Limited) ((arc_value c.args.desk.now.shelf).idle) (language_for c.args.desk.now.attending.user (arc_value c.args.desk.now.shelf)) g.K.Link.begun g.K.Link.told g.C.Timestamps.told (g.K.Link.state c.args.link.now) (g.C.Timestamps.coming c.args.clock.now) c.args.desk.now.seat c.args.desk.now.users.seat (g.K.Link.state c.loop.link) a.user c.loop.counter c.loop.silent) (sym c.is_cancelled.ensures.attending) c.loop.invariant.idles in
     let noted_here = noted_beside (arc_value c.args.desk.now.shelf) (telling g.K.Link.told g.C.Timestamps.told g.C.Timestamps.stamped) (stood (g.K.Link.state c.args.link.now) (g.C.Timestamps.coming c.args.clock.now) c.args.desk.now.seat c.args.desk.now.users.seat c.args.desk.now.attending) (stood (g.K.Link.state c.loop.link) (g.C.Timestamps.coming c.loop.clock) c.loop.desk.seat c.loop.desk.users.seat c.loop.desk.attending) (stood (g.K.Link.state c.loop.link) (g.C.Timestamps.coming c.loop.clock) c.is_cancelled.new.desk.seat c.is_cancelled.new.desk.users.seat c.is_cancelled.new.desk.attending) (g.N.Notes.noted c.args.notes.now c.loop.notes) c.loop.invariant.noted (beside_look g.K.Link.told (g.K.Link.state c.loop.link) (g.C.Timestamps.coming c.loop.clock) c.args.patience c.is_cancelled.result c.loop.desk.seat c.is_cancelled.new.desk.seat c.loop.desk.users.seat c.is_cancelled.new.desk.users.seat c.loop.desk.attending c.is_cancelled.new.desk.attending c.is_cancelled.ensures.seat c.is_cancelled.ensures.users c.is_cancelled.ensures.heeded c.is_cancelled.ensures.attending) in
     let h = c.seen.ensures.history in
     let p = c.seen-2.ensures.history in
     let seat = c.args.desk.now.seat in
-    let b : Beginning = record { opening = seat.opening; users = c.args.desk.now.users.seat.opening; place = seat.place; before = h.0; users_before = p.0 } in
+    let b : Beginning = record { opening = seat.opening; users = c.args.desk.now.users.seat.opening; place = seat.place; before = h.0; users_before = p.0; first = done_before seat c.args.desk.now.users.seat p.1.marks } in
     let cut : ◌≡◌ {A = Result Progress Stopped} (Ok c.report.result) (Ok Cut) = ap (λ (p : Progress). Ok p) c.in-Cut.is in
     let going : (g.K.Link.state c.report.new.link).ended ≡ false = c.report.ensures.link.wrote.ended ∙ c.in-Quiet.ensures.read.ended in
-    let breaks = goes_cut_is _ _ _ _ _ _ _ _ _ _ _ _ _ cut (moved_goes arc_value c.args.desk.now.attending.user g.K.Link.told g.C.Timestamps.told _ (g.K.Link.state c.report.new.link) (g.C.Timestamps.coming c.loop.clock) (g.C.Timestamps.coming c.report.new.clock) (now c.is_cancelled.new.desk) (now c.report.new.desk) (is_some c.is_cancelled.new.desk.attending.watch) c.is_cancelled.new.desk.reader c.is_cancelled.new.desk.reader (Ok c.report.result) c.args.desk.now.shelf c.is_cancelled.new.desk.shelf c.args.desk.now.seat c.is_cancelled.new.desk.seat c.args.desk.now.users.seat c.is_cancelled.new.desk.users.seat [] [] (c.is_cancelled.ensures.shelf ∙ c.loop.invariant.shelf) moved.here.seat_is moved.here.users_are (λ k c1 b1. c.report.ensures.goes c.is_cancelled.new.desk.reader [] c.args.desk.now.attending.user k c1 b1) _ _ b (refl, refl, refl, c.args.desk.now.same_place) (stands_quiet _ _ _ _ _ _ _ _ _ _ _ _ (moved.here.stands b (refl, refl, refl, c.args.desk.now.same_place) h.1 p.1) c.in-Quiet.ensures.read)) in
+    let breaks = goes_cut_is _ _ _ _ _ _ _ _ _ _ _ _ _ cut (moved_goes arc_value c.args.desk.now.attending.user g.K.Link.told g.C.Timestamps.told _ (g.K.Link.state c.report.new.link) (g.C.Timestamps.coming c.loop.clock) (g.C.Timestamps.coming c.report.new.clock) (now c.is_cancelled.new.desk) (now c.report.new.desk) (is_some c.is_cancelled.new.desk.attending.watch) c.is_cancelled.new.desk.reader c.is_cancelled.new.desk.reader (Ok c.report.result) c.args.desk.now.shelf c.is_cancelled.new.desk.shelf c.args.desk.now.seat c.is_cancelled.new.desk.seat c.args.desk.now.users.seat c.is_cancelled.new.desk.users.seat [] [] (c.is_cancelled.ensures.shelf ∙ c.loop.invariant.shelf) moved.here.seat_is moved.here.users_are (λ k c1 b1. c.report.ensures.goes c.is_cancelled.new.desk.reader [] c.args.desk.now.attending.user k c1 b1) _ _ b (refl, refl, refl, c.args.desk.now.same_place) (stands_quiet _ _ _ _ _ _ _ _ _ _ _ _ (moved.here.stands b (refl, refl, refl, c.args.desk.now.same_place) h.1 p.1 (record { stamps_are = refl; users_stamps_are = refl; codes_are = p.1.codes_are })) c.in-Quiet.ensures.read)) in
     record {
       shelf = c.report.ensures.shelf ∙ (c.is_cancelled.ensures.shelf ∙ c.loop.invariant.shelf);
       seat = (c.report.ensures.seat.0 ∙ moved.here.seat_is.0, c.report.ensures.seat.1 ∙ moved.here.seat_is.1, c.report.ensures.seat.2 ∙ moved.here.seat_is.2, c.report.ensures.seat.3 ∙ moved.here.seat_is.3);
@@ -310,11 +310,11 @@ returns-in-Cut g c =
       hung_up = c.report.ensures.hung_up ∙ c.in-Quiet.ensures.hung_up ∙ c.loop.invariant.hung_up;
       session = record { before = h.0; users_before = p.0; saw = h.1; users_saw = p.1; attending = _; session = breaks };
       prompt = prompt_more (language_for c.args.desk.now.attending.user (arc_value c.args.desk.now.shelf)) g.K.Link.begun g.K.Link.told g.C.Timestamps.told (g.K.Link.state c.args.link.now) (g.C.Timestamps.coming c.args.clock.now) c.args.desk.now.seat c.args.desk.now.users.seat (g.K.Link.state c.loop.link) (g.K.Link.state c.report.new.link) _ (g.C.Timestamps.coming c.loop.clock) (now c.is_cancelled.new.desk) c.is_cancelled.new.desk.reader c.loop.invariant.prompt c.in-Quiet.ensures.begun moved.here.stands c.in-Quiet.ensures.read.reads c.report.ensures.link.wrote.reads;
-      heeds = λ limits. heeds_more (language_for c.args.desk.now.attending.user (arc_value c.args.desk.now.shelf)) g.K.Link.begun g.K.Link.told g.C.Timestamps.told (g.K.Link.state c.args.link.now) (g.C.Timestamps.coming c.args.clock.now) c.args.desk.now.seat c.args.desk.now.users.seat (g.K.Link.state c.loop.link) (g.K.Link.state c.report.new.link) _ (g.C.Timestamps.coming c.loop.clock) (now c.is_cancelled.new.desk) c.is_cancelled.new.desk.reader (c.loop.invariant.heeds limits) c.in-Quiet.ensures.begun (λ b at saw users. (moved.here.stands b at saw users, moved.unended c.if-is_cancelled.false limits b at saw users)) c.in-Quiet.ensures.read.reads c.report.ensures.link.wrote.reads;
-      timely = λ b at saw users.
-          timely_read (language_for c.args.desk.now.attending.user (arc_value c.args.desk.now.shelf)) (telling g.K.Link.told g.C.Timestamps.told g.C.Timestamps.stamped) (starting (g.K.Link.state c.args.link.now) (g.C.Timestamps.coming c.args.clock.now) b) (g.K.Link.state c.args.link.now) (g.K.Link.state c.loop.link) c.is_cancelled.new.desk.seat.seen c.is_cancelled.new.desk.users.seat.seen (moved.here.timely b at saw users) _ _ _ _ c.in-Quiet.ensures.read
+      heeds = λ limits. heeds_more (language_for c.args.desk.now.attending.user (arc_value c.args.desk.now.shelf)) g.K.Link.begun g.K.Link.told g.C.Timestamps.told (g.K.Link.state c.args.link.now) (g.C.Timestamps.coming c.args.clock.now) c.args.desk.now.seat c.args.desk.now.users.seat (g.K.Link.state c.loop.link) (g.K.Link.state c.report.new.link) _ (g.C.Timestamps.coming c.loop.clock) (now c.is_cancelled.new.desk) c.is_cancelled.new.desk.reader (c.loop.invariant.heeds limits) c.in-Quiet.ensures.begun (λ b at saw users first. (moved.here.stands b at saw users first, moved.unended c.if-is_cancelled.false limits b at saw users first)) c.in-Quiet.ensures.read.reads c.report.ensures.link.wrote.reads;
+      timely = λ b at saw users first.
+          timely_read (language_for c.args.desk.now.attending.user (arc_value c.args.desk.now.shelf)) (telling g.K.Link.told g.C.Timestamps.told g.C.Timestamps.stamped) (starting (g.K.Link.state c.args.link.now) (g.C.Timestamps.coming c.args.clock.now) b) (g.K.Link.state c.args.link.now) (g.K.Link.state c.loop.link) c.is_cancelled.new.desk.seat.seen c.is_cancelled.new.desk.users.seat.seen (moved.here.timely b at saw users first) _ _ _ _ c.in-Quiet.ensures.read
           (timely_moved arc_value (telling g.K.Link.told g.C.Timestamps.told g.C.Timestamps.stamped) (g.C.Timestamps.coming c.loop.clock) _ _ (in_hand c.is_cancelled.new.desk.attending (is_some c.is_cancelled.new.desk.attending.watch) More c.is_cancelled.new.desk.reader []) c.args.desk.now.shelf c.is_cancelled.new.desk.shelf c.args.desk.now.seat c.is_cancelled.new.desk.seat c.args.desk.now.users.seat c.is_cancelled.new.desk.users.seat (c.is_cancelled.ensures.shelf ∙ c.loop.invariant.shelf) moved.here.seat_is moved.here.users_are (c.report.ensures.timely c.is_cancelled.new.desk.reader []) c.args.desk.now.attending.user _ _ b at
-          (stands_quiet _ _ _ _ _ _ _ _ _ _ _ _ (moved.here.stands b at saw users) c.in-Quiet.ensures.read))
+          (stands_quiet _ _ _ _ _ _ _ _ _ _ _ _ (moved.here.stands b at saw users first) c.in-Quiet.ensures.read))
           (looked_to g.K.Link.told b _ (g.K.Link.state c.report.new.link) c.is_cancelled.new.desk.seat c.is_cancelled.new.desk.users.seat (moved.here.seat_is.0 ∙ at.0, moved.here.seat_is.1 ∙ at.1, moved.here.users_are.0 ∙ at.2, moved.here.users_are.1 ∙ at.3) c.report.ensures.link _ _ (ap (λ (u : UserDesk g.row.U.Denot). u.seat.seen) c.report.ensures.users) c.report.ensures.entered);
       end = ((λ is. write_no _ is refl), (λ ended. unheld _ going ended));
       all_read = λ t is. write_no _ is refl;
@@ -357,7 +357,7 @@ returns-then-is_over g c =
     let h = c.seen.ensures.history in
     let p = c.seen-2.ensures.history in
     let seat = c.args.desk.now.seat in
-    let b : Beginning = record { opening = seat.opening; users = c.args.desk.now.users.seat.opening; place = seat.place; before = h.0; users_before = p.0 } in
+    let b : Beginning = record { opening = seat.opening; users = c.args.desk.now.users.seat.opening; place = seat.place; before = h.0; users_before = p.0; first = done_before seat c.args.desk.now.users.seat p.1.marks } in
     let i = c.loop.invariant in
     let over = c.is_over.ensures.over c.if-is_over.true in
     record {
@@ -365,7 +365,7 @@ returns-then-is_over g c =
       hung_up = i.hung_up;
       seat = i.seat;
       users = i.users;
-      session = record { before = h.0; users_before = p.0; saw = h.1; users_saw = p.1; attending = c.loop.desk.attending; session = record { served = served_here _ _ _ _ _ _ _ _ _ _ (i.stands b (refl, refl, refl, c.args.desk.now.same_place) h.1 p.1); nobody = over.1 } };
+      session = record { before = h.0; users_before = p.0; saw = h.1; users_saw = p.1; attending = c.loop.desk.attending; session = record { served = served_here _ _ _ _ _ _ _ _ _ _ (i.stands b (refl, refl, refl, c.args.desk.now.same_place) h.1 p.1 (record { stamps_are = refl; users_stamps_are = refl; codes_are = p.1.codes_are })); nobody = over.1 } };
       prompt = i.prompt;
       timely = i.timely;
       end = ((λ is. unattended_no _ is refl), (λ ended. unheld _ (i.not_ended (some_made c.loop.counter c.loop.waited over.2 i.waits.few)) ended));
@@ -395,7 +395,7 @@ returns-then-is_idle g c =
     let h = c.seen.ensures.history in
     let p = c.seen-2.ensures.history in
     let seat = c.args.desk.now.seat in
-    let b : Beginning = record { opening = seat.opening; users = c.args.desk.now.users.seat.opening; place = seat.place; before = h.0; users_before = p.0 } in
+    let b : Beginning = record { opening = seat.opening; users = c.args.desk.now.users.seat.opening; place = seat.place; before = h.0; users_before = p.0; first = done_before seat c.args.desk.now.users.seat p.1.marks } in
     let i = c.loop.invariant in
     let idle = c.is_idle.ensures.idle c.if-is_idle.true in
     let long = subst (λ (l : IdleLimits). IsTooLong l c.loop.desk.attending.user c.loop.silent) (c.idle-limits.ensures ∙ ap (λ (s : Contents). s.idle) c.deref.ensures) idle.1 in
@@ -404,7 +404,7 @@ returns-then-is_idle g c =
       hung_up = i.hung_up;
       seat = i.seat;
       users = i.users;
-      session = record { before = h.0; users_before = p.0; saw = h.1; users_saw = p.1; attending = c.loop.desk.attending; session = served_here _ _ _ _ _ _ _ _ _ _ (i.stands b (refl, refl, refl, c.args.desk.now.same_place) h.1 p.1) };
+      session = record { before = h.0; users_before = p.0; saw = h.1; users_saw = p.1; attending = c.loop.desk.attending; session = served_here _ _ _ _ _ _ _ _ _ _ (i.stands b (refl, refl, refl, c.args.desk.now.same_place) h.1 p.1 (record { stamps_are = refl; users_stamps_are = refl; codes_are = p.1.codes_are })) };
       prompt = i.prompt;
       timely = i.timely;
       end = ((λ is. idle_no _ is refl), (λ ended. unheld _ (i.not_ended (some_silent ((arc_value c.args.desk.now.shelf).idle) c.loop.desk.attending.user c.loop.counter c.loop.silent long i.idles.few)) ended));
@@ -452,19 +452,19 @@ returns-then-is_cancelled g c =
     let h = c.seen.ensures.history in
     let p = c.seen-2.ensures.history in
     let seat = c.args.desk.now.seat in
-    let b : Beginning = record { opening = seat.opening; users = c.args.desk.now.users.seat.opening; place = seat.place; before = h.0; users_before = p.0 } in
+    let b : Beginning = record { opening = seat.opening; users = c.args.desk.now.users.seat.opening; place = seat.place; before = h.0; users_before = p.0; first = done_before seat c.args.desk.now.users.seat p.1.marks } in
     let i = c.loop.invariant in
-    let moved = looked (language_for c.args.desk.now.attending.user (arc_value c.args.desk.now.shelf)) (telling g.K.Link.told g.C.Timestamps.told g.C.Timestamps.stamped) g.G.Gate.asked g.G.Gate.asked_on g.G.Gate.unasked (g.K.Link.state c.args.link.now) (g.K.Link.state c.loop.link) (g.C.Timestamps.coming c.args.clock.now) (g.C.Timestamps.coming c.loop.clock) c.args.desk.now.seat c.args.desk.now.users.seat c.args.gate.now c.loop.gate c.args.patience c.is_cancelled.result c.loop.desk.seat c.loop.desk.users.seat c.is_cancelled.new.desk.users.seat c.loop.desk.attending c.loop.desk.reader (record { seat_is = c.loop.invariant.seat; users_are = c.loop.invariant.users; stands = c.loop.invariant.stands; timely = c.loop.invariant.timely; entered = c.loop.invariant.asked }) c.is_cancelled.ensures.users c.is_cancelled.ensures.heeded c.is_cancelled.new.desk.seat c.is_cancelled.new.desk.attending c.is_cancelled.new.desk.reader c.is_cancelled.ensures.seat c.is_cancelled.ensures.attending c.is_cancelled.ensures.reader in
+    let moved = looked (language_for c.args.desk.now.attending.user (arc_value c.args.desk.now.shelf)) (telling g.K.Link.told g.C.Timestamps.told g.C.Timestamps.stamped) g.G.Gate.asked g.G.Gate.asked_on g.G.Gate.unasked (g.K.Link.state c.args.link.now) (g.K.Link.state c.loop.link) (g.C.Timestamps.coming c.args.clock.now) (g.C.Timestamps.coming c.loop.clock) c.args.desk.now.seat c.args.desk.now.users.seat c.args.gate.now c.loop.gate c.args.patience c.is_cancelled.result c.loop.desk.seat c.loop.desk.users.seat c.is_cancelled.new.desk.users.seat c.loop.desk.attending c.loop.desk.reader (record { seat_is = c.loop.invariant.seat; users_are = c.loop.invariant.users; stands = c.loop.invariant.stands; timely = c.loop.invariant.timely; entered = c.loop.invariant.asked }) c.is_cancelled.ensures.users c.is_cancelled.ensures.in_turn c.is_cancelled.ensures.heeded c.is_cancelled.new.desk.seat c.is_cancelled.new.desk.attending c.is_cancelled.new.desk.reader c.is_cancelled.ensures.seat c.is_cancelled.ensures.attending c.is_cancelled.ensures.reader in
     let noted_here = noted_beside (arc_value c.args.desk.now.shelf) (telling g.K.Link.told g.C.Timestamps.told g.C.Timestamps.stamped) (stood (g.K.Link.state c.args.link.now) (g.C.Timestamps.coming c.args.clock.now) c.args.desk.now.seat c.args.desk.now.users.seat c.args.desk.now.attending) (stood (g.K.Link.state c.loop.link) (g.C.Timestamps.coming c.loop.clock) c.loop.desk.seat c.loop.desk.users.seat c.loop.desk.attending) (stood (g.K.Link.state c.loop.link) (g.C.Timestamps.coming c.loop.clock) c.is_cancelled.new.desk.seat c.is_cancelled.new.desk.users.seat c.is_cancelled.new.desk.attending) (g.N.Notes.noted c.args.notes.now c.loop.notes) c.loop.invariant.noted (beside_look g.K.Link.told (g.K.Link.state c.loop.link) (g.C.Timestamps.coming c.loop.clock) c.args.patience c.is_cancelled.result c.loop.desk.seat c.is_cancelled.new.desk.seat c.loop.desk.users.seat c.is_cancelled.new.desk.users.seat c.loop.desk.attending c.is_cancelled.new.desk.attending c.is_cancelled.ensures.seat c.is_cancelled.ensures.users c.is_cancelled.ensures.heeded c.is_cancelled.ensures.attending) in
     record {
       shelf = c.is_cancelled.ensures.shelf ∙ i.shelf;
       hung_up = i.hung_up;
       seat = moved.here.seat_is;
       users = moved.here.users_are;
-      session = record { before = h.0; users_before = p.0; saw = h.1; users_saw = p.1; attending = c.is_cancelled.new.desk.attending; session = record { served = served_here _ _ _ _ _ _ _ _ _ _ (moved.here.stands b (refl, refl, refl, c.args.desk.now.same_place) h.1 p.1); ended = moved.ended c.if-is_cancelled.true b (refl, refl, refl, c.args.desk.now.same_place) h.1 p.1 } };
+      session = record { before = h.0; users_before = p.0; saw = h.1; users_saw = p.1; attending = c.is_cancelled.new.desk.attending; session = record { served = served_here _ _ _ _ _ _ _ _ _ _ (moved.here.stands b (refl, refl, refl, c.args.desk.now.same_place) h.1 p.1 (record { stamps_are = refl; users_stamps_are = refl; codes_are = p.1.codes_are })); ended = moved.ended c.if-is_cancelled.true b (refl, refl, refl, c.args.desk.now.same_place) h.1 p.1 (record { stamps_are = refl; users_stamps_are = refl; codes_are = p.1.codes_are }) } };
       prompt = i.prompt;
       timely = moved.here.timely;
-      end = ((λ is. cancelled_no _ is refl), (λ ended. unheld _ (made_one c.loop.counter (λ none. somebody_ended b.place c.is_cancelled.new.desk.attending.user _ (moved.ended c.if-is_cancelled.true b (refl, refl, refl, c.args.desk.now.same_place) h.1 p.1) (ap (λ (a : Attending). a.user) c.is_cancelled.ensures.attending ∙ i.vacant (c.is_cancelled.ensures.limited c.if-is_cancelled.true) none)) i.not_ended) ended));
+      end = ((λ is. cancelled_no _ is refl), (λ ended. unheld _ (made_one c.loop.counter (λ none. somebody_ended b.place c.is_cancelled.new.desk.attending.user _ (moved.ended c.if-is_cancelled.true b (refl, refl, refl, c.args.desk.now.same_place) h.1 p.1 (record { stamps_are = refl; users_stamps_are = refl; codes_are = p.1.codes_are })) (ap (λ (a : Attending). a.user) c.is_cancelled.ensures.attending ∙ i.vacant (c.is_cancelled.ensures.limited c.if-is_cancelled.true) none)) i.not_ended) ended));
       all_read = λ t is. cancelled_no _ is refl;
       read_fault = λ is. cancelled_no _ is refl;
       no_read_fault = λ is. i.faults;

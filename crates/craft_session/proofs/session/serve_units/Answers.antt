@@ -14,7 +14,7 @@ use Rattle.craft_session.specs.declared.end.Progress.TheVariants.{On, Cut}
 use Rattle.craft_session.specs.Desks.{now}
 use Rattle.craft_session.specs.Meanings.{language_for}
 use Rattle.craft_session.specs.Noted.{stood}
-use Rattle.craft_session.specs.Sessions.{Beginning, Goes, IsAt, Stands}
+use Rattle.craft_session.specs.Sessions.{Beginning, Goes, IsAt, Stands, now_of}
 use Rattle.craft_session.specs.Timely.{in_hand, starting, telling}
 use Rattle.craft_session.proofs.Ends.{by_stop, is_stop, no_stop, rose_after, stayed_ok}
 use Rattle.craft_session.proofs.Gated.{are_entered_none, are_entered_on}
@@ -31,7 +31,7 @@ loop-at-preserved g c =
     let piece : List ℕ = c.args.piece.now in
     let offer = take_rest piece c.loop-at.at in
     let on : c.serve_unit.result ≡ Ok On = c.in_ok-serve_unit.was ∙ ap (λ (p : Progress). Ok p) c.in-On.is in
-    let goes = subst (λ (y : Contents). (user : SessionUser) (k : LinkState) (c2 : List Moment) (b : Beginning) (ahead : List ℕ) → IsAt b c.loop-at.desk.seat c.loop-at.desk.users.seat → Stands (language_for user y) g.K.Link.told g.C.Timestamps.told k (g.K.Link.state c.loop-at.link) c2 (g.C.Timestamps.coming c.loop-at.clock) b (record { seen = c.loop-at.desk.seat.seen; users = c.loop-at.desk.users.seat.seen; attending = c.loop-at.desk.attending }) false c.feed-fed.result.unit c.feed-fed.new.self ahead
+    let goes = subst (λ (y : Contents). (user : SessionUser) (k : LinkState) (c2 : List Moment) (b : Beginning) (ahead : List ℕ) → IsAt b c.loop-at.desk.seat c.loop-at.desk.users.seat → Stands (language_for user y) g.K.Link.told g.C.Timestamps.told k (g.K.Link.state c.loop-at.link) c2 (g.C.Timestamps.coming c.loop-at.clock) b (now_of c.loop-at.desk.seat c.loop-at.desk.users.seat c.loop-at.desk.attending) false c.feed-fed.result.unit c.feed-fed.new.self ahead
     → Goes (language_for user y) g.K.Link.told g.C.Timestamps.told k (g.K.Link.state c.serve_unit.new.link) c2 (g.C.Timestamps.coming c.serve_unit.new.clock) b (now c.serve_unit.new.desk) c.serve_unit.result false c.feed-fed.new.self ahead) (ap arc_value c.loop-at.invariant.shelf) (λ user k c2 b ahead. c.serve_unit.ensures.goes ahead user k c2 b) in
     record {
       shelf = c.serve_unit.ensures.shelf ∙ c.loop-at.invariant.shelf;
@@ -47,10 +47,10 @@ loop-at-preserved g c =
       timely = λ user k c1 b at s.
           timely_more (language_for user (arc_value c.args.desk.now.shelf)) (telling g.K.Link.told g.C.Timestamps.told g.C.Timestamps.stamped) (starting k c1 b) (g.K.Link.state c.args.link.now) (g.K.Link.state c.loop-at.link) c.loop-at.desk.seat.seen c.loop-at.desk.users.seat.seen (c.loop-at.invariant.timely user k c1 b at s) _
           (timely_moved arc_value (telling g.K.Link.told g.C.Timestamps.told g.C.Timestamps.stamped) (g.C.Timestamps.coming c.loop-at.clock) (g.K.Link.state c.loop-at.link) _ (in_hand c.loop-at.desk.attending false c.feed-fed.result.unit c.feed-fed.new.self (drop (c.loop-at.at + c.feed-fed.result.taken) c.args.piece.now)) c.args.desk.now.shelf c.loop-at.desk.shelf c.args.desk.now.seat c.loop-at.desk.seat c.args.desk.now.users.seat c.loop-at.desk.users.seat c.loop-at.invariant.shelf c.loop-at.invariant.seat c.loop-at.invariant.users (c.serve_unit.ensures.timely (drop (c.loop-at.at + c.feed-fed.result.taken) c.args.piece.now)) user k c1 b at
-          (stands_on (language_for user (arc_value c.args.desk.now.shelf)) g.K.Link.told g.C.Timestamps.told k c1 b (g.K.Link.state c.loop-at.link) (g.C.Timestamps.coming c.loop-at.clock) (record { seen = c.loop-at.desk.seat.seen; users = c.loop-at.desk.users.seat.seen; attending = c.loop-at.desk.attending }) c.loop-at.desk.reader c.args.piece.now _ c.loop-at.at c.feed-fed.result c.feed-fed.new.self (c.loop-at.invariant.stands user k c1 b at s) (take_rest c.args.piece.now c.loop-at.at) c.feed-fed.ensures.fed))
+          (stands_on (language_for user (arc_value c.args.desk.now.shelf)) g.K.Link.told g.C.Timestamps.told k c1 b (g.K.Link.state c.loop-at.link) (g.C.Timestamps.coming c.loop-at.clock) (now_of c.loop-at.desk.seat c.loop-at.desk.users.seat c.loop-at.desk.attending) c.loop-at.desk.reader c.args.piece.now _ c.loop-at.at c.feed-fed.result c.feed-fed.new.self (c.loop-at.invariant.stands user k c1 b at s) (take_rest c.args.piece.now c.loop-at.at) c.feed-fed.ensures.fed))
           (went_to g.K.Link.told b (g.K.Link.state c.loop-at.link) (g.K.Link.state c.serve_unit.new.link) c.loop-at.desk.seat c.loop-at.desk.users.seat (c.loop-at.invariant.seat.0 ∙ at.0, c.loop-at.invariant.seat.1 ∙ at.1, c.loop-at.invariant.users.0 ∙ at.2, c.loop-at.invariant.users.1 ∙ at.3) c.serve_unit.ensures.link _ _ _ c.serve_unit.ensures.asked);
       stands = λ user k c1 b at s. rw c.serve_unit.ensures.reader (goes_on_is (language_for user (arc_value c.args.desk.now.shelf)) g.K.Link.told g.C.Timestamps.told k c1 b (g.K.Link.state c.serve_unit.new.link) (g.C.Timestamps.coming c.serve_unit.new.clock) (now c.serve_unit.new.desk) c.feed-fed.new.self c.serve_unit.result _ on (goes user k c1 b (drop (c.loop-at.at + c.feed-fed.result.taken) c.args.piece.now) (c.loop-at.invariant.seat.0 ∙ at.0, c.loop-at.invariant.seat.1 ∙ at.1, c.loop-at.invariant.users.0 ∙ at.2, c.loop-at.invariant.users.1 ∙ at.3)
-          (stands_on (language_for user (arc_value c.args.desk.now.shelf)) g.K.Link.told g.C.Timestamps.told k c1 b (g.K.Link.state c.loop-at.link) (g.C.Timestamps.coming c.loop-at.clock) (record { seen = c.loop-at.desk.seat.seen; users = c.loop-at.desk.users.seat.seen; attending = c.loop-at.desk.attending }) c.loop-at.desk.reader c.args.piece.now _ c.loop-at.at c.feed-fed.result c.feed-fed.new.self (c.loop-at.invariant.stands user k c1 b at s) (take_rest c.args.piece.now c.loop-at.at) c.feed-fed.ensures.fed)));
+          (stands_on (language_for user (arc_value c.args.desk.now.shelf)) g.K.Link.told g.C.Timestamps.told k c1 b (g.K.Link.state c.loop-at.link) (g.C.Timestamps.coming c.loop-at.clock) (now_of c.loop-at.desk.seat c.loop-at.desk.users.seat c.loop-at.desk.attending) c.loop-at.desk.reader c.args.piece.now _ c.loop-at.at c.feed-fed.result c.feed-fed.new.self (c.loop-at.invariant.stands user k c1 b at s) (take_rest c.args.piece.now c.loop-at.at) c.feed-fed.ensures.fed)));
     }
 
 pub returns-in-Cut : goal.returns-in-Cut
@@ -71,13 +71,13 @@ returns-in-Cut g c =
       timely = λ user k c1 b at s.
           timely_more (language_for user (arc_value c.args.desk.now.shelf)) (telling g.K.Link.told g.C.Timestamps.told g.C.Timestamps.stamped) (starting k c1 b) (g.K.Link.state c.args.link.now) (g.K.Link.state c.loop-at.link) c.loop-at.desk.seat.seen c.loop-at.desk.users.seat.seen (c.loop-at.invariant.timely user k c1 b at s) _
           (timely_moved arc_value (telling g.K.Link.told g.C.Timestamps.told g.C.Timestamps.stamped) (g.C.Timestamps.coming c.loop-at.clock) (g.K.Link.state c.loop-at.link) _ (in_hand c.loop-at.desk.attending false c.feed-fed.result.unit c.feed-fed.new.self (drop (c.loop-at.at + c.feed-fed.result.taken) c.args.piece.now)) c.args.desk.now.shelf c.loop-at.desk.shelf c.args.desk.now.seat c.loop-at.desk.seat c.args.desk.now.users.seat c.loop-at.desk.users.seat c.loop-at.invariant.shelf c.loop-at.invariant.seat c.loop-at.invariant.users (c.serve_unit.ensures.timely (drop (c.loop-at.at + c.feed-fed.result.taken) c.args.piece.now)) user k c1 b at
-          (stands_on (language_for user (arc_value c.args.desk.now.shelf)) g.K.Link.told g.C.Timestamps.told k c1 b (g.K.Link.state c.loop-at.link) (g.C.Timestamps.coming c.loop-at.clock) (record { seen = c.loop-at.desk.seat.seen; users = c.loop-at.desk.users.seat.seen; attending = c.loop-at.desk.attending }) c.loop-at.desk.reader c.args.piece.now _ c.loop-at.at c.feed-fed.result c.feed-fed.new.self (c.loop-at.invariant.stands user k c1 b at s) (take_rest c.args.piece.now c.loop-at.at) c.feed-fed.ensures.fed))
+          (stands_on (language_for user (arc_value c.args.desk.now.shelf)) g.K.Link.told g.C.Timestamps.told k c1 b (g.K.Link.state c.loop-at.link) (g.C.Timestamps.coming c.loop-at.clock) (now_of c.loop-at.desk.seat c.loop-at.desk.users.seat c.loop-at.desk.attending) c.loop-at.desk.reader c.args.piece.now _ c.loop-at.at c.feed-fed.result c.feed-fed.new.self (c.loop-at.invariant.stands user k c1 b at s) (take_rest c.args.piece.now c.loop-at.at) c.feed-fed.ensures.fed))
           (went_to g.K.Link.told b (g.K.Link.state c.loop-at.link) (g.K.Link.state c.serve_unit.new.link) c.loop-at.desk.seat c.loop-at.desk.users.seat (c.loop-at.invariant.seat.0 ∙ at.0, c.loop-at.invariant.seat.1 ∙ at.1, c.loop-at.invariant.users.0 ∙ at.2, c.loop-at.invariant.users.1 ∙ at.3) c.serve_unit.ensures.link _ _ _ c.serve_unit.ensures.asked);
       goes = λ user k c1 b at s.
-          let goes = subst (λ (y : Contents). (user : SessionUser) (k : LinkState) (c2 : List Moment) (b : Beginning) (ahead : List ℕ) → IsAt b c.loop-at.desk.seat c.loop-at.desk.users.seat → Stands (language_for user y) g.K.Link.told g.C.Timestamps.told k (g.K.Link.state c.loop-at.link) c2 (g.C.Timestamps.coming c.loop-at.clock) b (record { seen = c.loop-at.desk.seat.seen; users = c.loop-at.desk.users.seat.seen; attending = c.loop-at.desk.attending }) false c.feed-fed.result.unit c.feed-fed.new.self ahead
+          let goes = subst (λ (y : Contents). (user : SessionUser) (k : LinkState) (c2 : List Moment) (b : Beginning) (ahead : List ℕ) → IsAt b c.loop-at.desk.seat c.loop-at.desk.users.seat → Stands (language_for user y) g.K.Link.told g.C.Timestamps.told k (g.K.Link.state c.loop-at.link) c2 (g.C.Timestamps.coming c.loop-at.clock) b (now_of c.loop-at.desk.seat c.loop-at.desk.users.seat c.loop-at.desk.attending) false c.feed-fed.result.unit c.feed-fed.new.self ahead
           → Goes (language_for user y) g.K.Link.told g.C.Timestamps.told k (g.K.Link.state c.serve_unit.new.link) c2 (g.C.Timestamps.coming c.serve_unit.new.clock) b (now c.serve_unit.new.desk) c.serve_unit.result false c.feed-fed.new.self ahead) (ap arc_value c.loop-at.invariant.shelf) (λ user k c2 b ahead. c.serve_unit.ensures.goes ahead user k c2 b) in
           goes_cut_is (language_for user (arc_value c.args.desk.now.shelf)) g.K.Link.told g.C.Timestamps.told k c1 b (g.K.Link.state c.serve_unit.new.link) (g.C.Timestamps.coming c.serve_unit.new.clock) (now c.serve_unit.new.desk) c.feed-fed.new.self c.serve_unit.result false _ cut (goes user k c1 b (drop (c.loop-at.at + c.feed-fed.result.taken) c.args.piece.now) (c.loop-at.invariant.seat.0 ∙ at.0, c.loop-at.invariant.seat.1 ∙ at.1, c.loop-at.invariant.users.0 ∙ at.2, c.loop-at.invariant.users.1 ∙ at.3)
-          (stands_on (language_for user (arc_value c.args.desk.now.shelf)) g.K.Link.told g.C.Timestamps.told k c1 b (g.K.Link.state c.loop-at.link) (g.C.Timestamps.coming c.loop-at.clock) (record { seen = c.loop-at.desk.seat.seen; users = c.loop-at.desk.users.seat.seen; attending = c.loop-at.desk.attending }) c.loop-at.desk.reader c.args.piece.now _ c.loop-at.at c.feed-fed.result c.feed-fed.new.self (c.loop-at.invariant.stands user k c1 b at s) (take_rest c.args.piece.now c.loop-at.at) c.feed-fed.ensures.fed));
+          (stands_on (language_for user (arc_value c.args.desk.now.shelf)) g.K.Link.told g.C.Timestamps.told k c1 b (g.K.Link.state c.loop-at.link) (g.C.Timestamps.coming c.loop-at.clock) (now_of c.loop-at.desk.seat c.loop-at.desk.users.seat c.loop-at.desk.attending) c.loop-at.desk.reader c.args.piece.now _ c.loop-at.at c.feed-fed.result c.feed-fed.new.self (c.loop-at.invariant.stands user k c1 b at s) (take_rest c.args.piece.now c.loop-at.at) c.feed-fed.ensures.fed));
     }
 
 pub returns-in_err-serve_unit : goal.returns-in_err-serve_unit
@@ -97,11 +97,11 @@ returns-in_err-serve_unit g c =
       timely = λ user k c1 b at s.
           timely_more (language_for user (arc_value c.args.desk.now.shelf)) (telling g.K.Link.told g.C.Timestamps.told g.C.Timestamps.stamped) (starting k c1 b) (g.K.Link.state c.args.link.now) (g.K.Link.state c.loop-at.link) c.loop-at.desk.seat.seen c.loop-at.desk.users.seat.seen (c.loop-at.invariant.timely user k c1 b at s) _
           (timely_moved arc_value (telling g.K.Link.told g.C.Timestamps.told g.C.Timestamps.stamped) (g.C.Timestamps.coming c.loop-at.clock) (g.K.Link.state c.loop-at.link) _ (in_hand c.loop-at.desk.attending false c.feed-fed.result.unit c.feed-fed.new.self (drop (c.loop-at.at + c.feed-fed.result.taken) c.args.piece.now)) c.args.desk.now.shelf c.loop-at.desk.shelf c.args.desk.now.seat c.loop-at.desk.seat c.args.desk.now.users.seat c.loop-at.desk.users.seat c.loop-at.invariant.shelf c.loop-at.invariant.seat c.loop-at.invariant.users (c.serve_unit.ensures.timely (drop (c.loop-at.at + c.feed-fed.result.taken) c.args.piece.now)) user k c1 b at
-          (stands_on (language_for user (arc_value c.args.desk.now.shelf)) g.K.Link.told g.C.Timestamps.told k c1 b (g.K.Link.state c.loop-at.link) (g.C.Timestamps.coming c.loop-at.clock) (record { seen = c.loop-at.desk.seat.seen; users = c.loop-at.desk.users.seat.seen; attending = c.loop-at.desk.attending }) c.loop-at.desk.reader c.args.piece.now _ c.loop-at.at c.feed-fed.result c.feed-fed.new.self (c.loop-at.invariant.stands user k c1 b at s) (take_rest c.args.piece.now c.loop-at.at) c.feed-fed.ensures.fed))
+          (stands_on (language_for user (arc_value c.args.desk.now.shelf)) g.K.Link.told g.C.Timestamps.told k c1 b (g.K.Link.state c.loop-at.link) (g.C.Timestamps.coming c.loop-at.clock) (now_of c.loop-at.desk.seat c.loop-at.desk.users.seat c.loop-at.desk.attending) c.loop-at.desk.reader c.args.piece.now _ c.loop-at.at c.feed-fed.result c.feed-fed.new.self (c.loop-at.invariant.stands user k c1 b at s) (take_rest c.args.piece.now c.loop-at.at) c.feed-fed.ensures.fed))
           (went_to g.K.Link.told b (g.K.Link.state c.loop-at.link) (g.K.Link.state c.serve_unit.new.link) c.loop-at.desk.seat c.loop-at.desk.users.seat (c.loop-at.invariant.seat.0 ∙ at.0, c.loop-at.invariant.seat.1 ∙ at.1, c.loop-at.invariant.users.0 ∙ at.2, c.loop-at.invariant.users.1 ∙ at.3) c.serve_unit.ensures.link _ _ _ c.serve_unit.ensures.asked);
       goes = λ user k c1 b at s.
-          let goes = subst (λ (y : Contents). (user : SessionUser) (k : LinkState) (c2 : List Moment) (b : Beginning) (ahead : List ℕ) → IsAt b c.loop-at.desk.seat c.loop-at.desk.users.seat → Stands (language_for user y) g.K.Link.told g.C.Timestamps.told k (g.K.Link.state c.loop-at.link) c2 (g.C.Timestamps.coming c.loop-at.clock) b (record { seen = c.loop-at.desk.seat.seen; users = c.loop-at.desk.users.seat.seen; attending = c.loop-at.desk.attending }) false c.feed-fed.result.unit c.feed-fed.new.self ahead
+          let goes = subst (λ (y : Contents). (user : SessionUser) (k : LinkState) (c2 : List Moment) (b : Beginning) (ahead : List ℕ) → IsAt b c.loop-at.desk.seat c.loop-at.desk.users.seat → Stands (language_for user y) g.K.Link.told g.C.Timestamps.told k (g.K.Link.state c.loop-at.link) c2 (g.C.Timestamps.coming c.loop-at.clock) b (now_of c.loop-at.desk.seat c.loop-at.desk.users.seat c.loop-at.desk.attending) false c.feed-fed.result.unit c.feed-fed.new.self ahead
           → Goes (language_for user y) g.K.Link.told g.C.Timestamps.told k (g.K.Link.state c.serve_unit.new.link) c2 (g.C.Timestamps.coming c.serve_unit.new.clock) b (now c.serve_unit.new.desk) c.serve_unit.result false c.feed-fed.new.self ahead) (ap arc_value c.loop-at.invariant.shelf) (λ user k c2 b ahead. c.serve_unit.ensures.goes ahead user k c2 b) in
           by_stop (λ (r : Result Progress Stopped). Goes (language_for user (arc_value c.args.desk.now.shelf)) g.K.Link.told g.C.Timestamps.told k (g.K.Link.state c.serve_unit.new.link) c1 (g.C.Timestamps.coming c.serve_unit.new.clock) b (now c.serve_unit.new.desk) r false c.serve_unit.new.desk.reader []) c.from_residual.result c.from_residual.ensures.0 (goes_stopped_is (language_for user (arc_value c.args.desk.now.shelf)) g.K.Link.told g.C.Timestamps.told k c1 b (g.K.Link.state c.serve_unit.new.link) (g.C.Timestamps.coming c.serve_unit.new.clock) (now c.serve_unit.new.desk) c.feed-fed.new.self c.serve_unit.result the_stop false _ c.in_err-serve_unit.was (goes user k c1 b (drop (c.loop-at.at + c.feed-fed.result.taken) c.args.piece.now) (c.loop-at.invariant.seat.0 ∙ at.0, c.loop-at.invariant.seat.1 ∙ at.1, c.loop-at.invariant.users.0 ∙ at.2, c.loop-at.invariant.users.1 ∙ at.3)
-          (stands_on (language_for user (arc_value c.args.desk.now.shelf)) g.K.Link.told g.C.Timestamps.told k c1 b (g.K.Link.state c.loop-at.link) (g.C.Timestamps.coming c.loop-at.clock) (record { seen = c.loop-at.desk.seat.seen; users = c.loop-at.desk.users.seat.seen; attending = c.loop-at.desk.attending }) c.loop-at.desk.reader c.args.piece.now _ c.loop-at.at c.feed-fed.result c.feed-fed.new.self (c.loop-at.invariant.stands user k c1 b at s) (take_rest c.args.piece.now c.loop-at.at) c.feed-fed.ensures.fed)));
+          (stands_on (language_for user (arc_value c.args.desk.now.shelf)) g.K.Link.told g.C.Timestamps.told k c1 b (g.K.Link.state c.loop-at.link) (g.C.Timestamps.coming c.loop-at.clock) (now_of c.loop-at.desk.seat c.loop-at.desk.users.seat c.loop-at.desk.attending) c.loop-at.desk.reader c.args.piece.now _ c.loop-at.at c.feed-fed.result c.feed-fed.new.self (c.loop-at.invariant.stands user k c1 b at s) (take_rest c.args.piece.now c.loop-at.at) c.feed-fed.ensures.fed)));
     }

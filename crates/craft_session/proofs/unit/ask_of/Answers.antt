@@ -13,6 +13,7 @@ use Rattle.craft_session.proofs.Asking.{input_long}
 use Rattle.craft_session.proofs.Consulted.{asked_as_read, asked_nothing, consulted_by, noted_as_read}
 use Rattle.craft_session.proofs.Ends.{still}
 use Rattle.craft_session.proofs.Noted.{noted_nothing}
+use Rattle.craft_session.proofs.Keeping.{user_seat_stays}
 use Rattle.craft_session.proofs.unit.ask_of.Goals as goal
 
 pub read-meaning-requires : goal.read-meaning-requires
@@ -39,6 +40,7 @@ returns-in-Whole g c =
       shelf = refl;
       seat = refl;
       users = r.same;
+      goes = r.goes;
       attending = refl;
       reader = refl;
       consulted = consulted_by s user u desk.users.seat c.consult.new.users.rows.items c.consult.new.users.seat.seen gate tag ask how (c.read-meaning.ensures.tag ∙ ap tag_of whole_is)
@@ -57,6 +59,7 @@ returns-in-TooLong g c =
       shelf = refl;
       seat = refl;
       users = (refl, refl, refl, refl);
+      goes = user_seat_stays _;
       attending = refl;
       reader = refl;
       consulted = (sym (ap tag_of long), asked_nothing _ _ _ _ _ (g.G.Gate.asked c.args.gate.now c.args.gate.now) (g.G.Gate.unasked c.args.gate.now) (ap (wants s desk.attending.user) long) (sym (ap (asks s desk.attending.user unasked) long)) c.clear.ensures);

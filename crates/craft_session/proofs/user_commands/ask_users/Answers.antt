@@ -15,6 +15,7 @@ use Rattle.craft_session.specs.Readings.{IsCommand}
 use Rattle.craft_session.proofs.Consulted.{asked_nothing}
 use Rattle.craft_session.proofs.Ends.{by_stop, never, rose_by, still}
 use Rattle.craft_session.proofs.Noted.{noted_nothing}
+use Rattle.craft_session.proofs.Keeping.{user_seat_stays}
 use Rattle.craft_session.proofs.user_commands.ask_users.Goals as goal
 
 pub on_users-requires-clause-named : goal.on_users-requires-clause-named
@@ -37,6 +38,7 @@ returns-in_err-ask-in-Ok g c =
     let stop = c.from_residual.ensures.0 in
     record {
       same = r.same;
+      goes = r.goes;
       asked = by_stop (λ (x : Result (Unit {0}) Stopped). AskedIs seat (users_want was) (λ y. users_ask y was) rows seen gate (put_down x a)) c.from_residual.result stop
           (subst (λ (o : Result UserOp Cause). AskedIs seat (users_want o) (λ y. users_ask y o) rows seen gate (Err the_stop)) given
           (subst (λ (x : Result Ask Stopped). AskedIs seat (op_wants c.in-Ok.op) heard_ask rows seen gate x) c.in_err-ask-in-Ok.was r.asked));
@@ -58,6 +60,7 @@ returns-in_ok-ask-in-Ok g c =
     let seen = c.on_users.new.users.seat.seen in
     record {
       same = c.on_users.ensures.same;
+      goes = c.on_users.ensures.goes;
       asked = subst (λ (o : Result UserOp Cause). AskedIs seat (users_want o) (λ y. users_ask y o) rows seen gate (Ok c.in_ok-ask-in-Ok.field-0)) given r.asked;
       noted = subst (λ (o : Result UserOp Cause). UsersNoted noted c.args.user.now c.args.tag.now (users_want o) (Ok c.in_ok-ask-in-Ok.field-0)) given r.noted;
       apt = r.apt;
@@ -73,3 +76,6 @@ pub returns-in-Err-clause-noted : goal.returns-in-Err-clause-noted
 returns-in-Err-clause-noted g c =
     let is = sym c.take.ensures ∙ c.in-Err.is in
     noted_nothing (g.N.Notes.noted c.args.notes.now c.args.notes.now) c.args.user.now c.args.tag.now _ _ (ap users_want is) (g.N.Notes.unnoted c.args.notes.now)
+
+pub returns-in-Err-clause-goes : goal.returns-in-Err-clause-goes
+returns-in-Err-clause-goes g c = user_seat_stays _

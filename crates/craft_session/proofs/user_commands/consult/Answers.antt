@@ -12,6 +12,7 @@ use Rattle.craft_session.proofs.Asking.{asked_beside}
 use Rattle.craft_session.proofs.Consulted.{asked_nothing}
 use Rattle.craft_session.proofs.Ends.{still}
 use Rattle.craft_session.proofs.Noted.{noted_nothing, noted_session}
+use Rattle.craft_session.proofs.Keeping.{user_seat_stays}
 use Rattle.craft_session.proofs.user_commands.consult.Goals as goal
 
 pub ask_users-requires-clause-named : goal.ask_users-requires-clause-named
@@ -29,6 +30,7 @@ returns-in-Session g c =
     let none = ap (λ (m : Meaning). wanted_in user unit op m) c.in-Session.is in
     record {
       same = (refl, refl, refl, refl);
+      goes = user_seat_stays _;
       asked = asked_nothing c.args.users.now.seat _ _ ask _ (g.G.Gate.asked c.args.gate.now c.args.gate.now) (g.G.Gate.unasked c.args.gate.now) none (sym (ap (λ (m : Meaning). asked_in user unit ask op m unasked) c.in-Session.is)) c.requires.no_rows;
       noted = noted_nothing (g.N.Notes.noted c.args.notes.now c.args.notes.now) user c.args.tag.now _ ask none (g.N.Notes.unnoted c.args.notes.now);
       apt = λ d fit. subst (λ (m : Meaning). IsAptIn d unit ask op m) c.in-Session.is fit;
@@ -47,6 +49,7 @@ returns-in-LogIn g c =
     let is = c.in-LogIn.is in
     record {
       same = c.log_in.ensures.same;
+      goes = c.log_in.ensures.goes;
       asked = subst (λ (m : Meaning). IsAsked seat (wanted_in user unit op m) (asked_in user unit c.args.ask.now op m) a rows seen (g.G.Gate.asked c.args.gate.now c.args.gate.now)) (sym is)
           (asked_beside seat _ _ a rows seen (g.G.Gate.asked c.args.gate.now c.args.gate.now) (g.G.Gate.unasked c.args.gate.now)
           (subst (λ (w : List ℕ × List ℕ). IsAsked seat (login_wants user w.0 w.1) (λ x. log_in user (named_by w.0 x)) a rows seen NothingAsked) (λ i. (c.text.ensures i, c.text-in-LogIn.ensures i)) c.log_in.ensures.asked));
@@ -70,6 +73,7 @@ returns-in-Users g c =
     let is = c.in-Users.is in
     record {
       same = r.same;
+      goes = r.goes;
       asked = subst (λ (m : Meaning). AskedIs seat (wanted_in user unit op m) (asked_in user unit ask op m) rows seen gate (put_down c.ask_users.result c.ask_users.new.ask)) (sym is) r.asked;
       noted = subst (λ (m : Meaning). UsersNoted noted user c.args.tag.now (wanted_in user unit op m) (put_down c.ask_users.result c.ask_users.new.ask)) (sym is) r.noted;
       apt = λ d fit. r.apt d;

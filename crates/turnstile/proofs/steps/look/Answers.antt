@@ -13,7 +13,7 @@ load-serving-requires g c = (
 )
 
 pub exchange-requires : goal.exchange-requires
-exchange-requires g c = let got = c.load-serving.ensures.2.1 (c.if-serving-ticket.false ∙ c.requires.drawn.2) in let e : c.load-serving.new.seat.me.1 ≡ (0, Some got.0) ∷ [] = ap (λ m. m.1) got.2 in
+exchange-requires g c = let got = c.load-serving.ensures.2.1 (c.if-serving-ticket.false ∙ c.requires.drawn.2) in let e : c.load-serving.new.seat.me.1 ≡ (0, Some got.0) ∷ [] = ap (λ m. m.1) got.3 in
     (c.load-serving.ensures.0 ∙ c.requires.table.0, (Some got.0, e ∙ (λ i. (0, Some got.0) ∷ rest (sym e i))))
 
 pub unwrap-state-requires : goal.unwrap-state-requires

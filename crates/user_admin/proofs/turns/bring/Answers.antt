@@ -1,14 +1,15 @@
 use Rattle.std.proofs.Common.{ℕ, List, [], ◌∷◌, ◌++◌, refl, sym, ◌∙◌, ap, subst}
+use Rattle.turnstile.proofs.Places.{found_more, left_pass}
 use Rattle.user_admin.specs.declared.op.UserMark.{UserMark}
 use Rattle.user_admin.specs.declared.op.UserMark.TheVariants.{Entered}
 use Rattle.tl1_users.specs.declared.op.UserOp.{UserOp}
 use Rattle.user_admin.specs.declared.shared.SharedUsers.{SharedUsers}
-use Rattle.user_admin.specs.Marks.{entries_of}
+use Rattle.user_admin.specs.Marks.{entries_of, place_of}
 use Rattle.user_admin.specs.Shared.{HasKept, SharedFor, opening_at}
 use Rattle.user_admin.specs.States.{entry}
-use Rattle.user_admin.specs.Turns.{Turned}
+use Rattle.user_admin.specs.Turns.{Turned, codes}
 use Rattle.user_admin.proofs.Sharing.{kept_later}
-use Rattle.user_admin.proofs.Turning.{at_turn, ends_at, ends_pass, same_marks, turned_at}
+use Rattle.user_admin.proofs.Turning.{at_turn, ends_at, numbered_own, same_marks, turned_at}
 use Rattle.user_admin.proofs.Resting.{home_rests}
 use Rattle.user_admin.proofs.turns.bring.Goals as goal
 
@@ -34,8 +35,8 @@ returns-clause-brought g c = λ ms saw.
 
 pub returns-clause-pass : goal.returns-clause-pass
 returns-clause-pass g c =
-    ends_pass g.D.Disk.told g.D.Disk.state (opening_at g.D.Disk.state c.args.turns.now.first) c.args.pass.now.number c.enter-turn.result.own c.args.turns.now.passes c.args.pass.now.seen c.enter-turn.result.seen c.enter-turn.result.state c.enter-turn.ensures.turn.1 c.enter-turn.ensures.found
-    c.args.turns.now c.args.pass.now c.leave.new.pass (Entered c.number-place.result c.of-op.result c.args.outcome) refl refl c.requires.pass (c.leave.ensures.pass.0, c.leave.ensures.pass.1, c.leave.ensures.pass.2 ∙ c.enter-turn.ensures.out.0) (c.number-place.ensures ∙ c.enter-turn.ensures.out.0) c.leave.ensures.seen
+    left_pass codes place_of c.args.turns.now c.args.pass.now c.enter-turn.new.pass c.leave.new.pass c.enter-turn.result _ c.requires.pass c.enter-turn.ensures.turn.1 (found_more c.enter-turn.ensures.found) c.enter-turn.ensures.dated c.enter-turn.ensures.out c.leave.ensures.pass c.leave.ensures.heard c.leave.ensures.dated c.leave.ensures.seen
+    (numbered_own g.D.Disk.told g.D.Disk.state (opening_at g.D.Disk.state c.args.turns.now.first) c.enter-turn.result.own c.args.turns.now.passes c.args.pass.now.seen c.enter-turn.result.seen c.enter-turn.result.state c.enter-turn.ensures.found c.args.pass.now.number (Entered c.number-place.result c.of-op.result c.args.outcome) c.leave.new.pass.seen (c.number-place.ensures ∙ c.enter-turn.ensures.out.0) c.requires.pass.2 c.leave.ensures.seen)
 
 pub returns-clause-rests : goal.returns-clause-rests
 returns-clause-rests g c =

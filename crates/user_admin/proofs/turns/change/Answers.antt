@@ -1,7 +1,9 @@
-use Rattle.std.proofs.Common.{ℕ, Option, Ok, [], ◌++◌, ◌∙◌, subst}
+use Rattle.std.proofs.Common.{ℕ, Option, Ok, [], ◌++◌, subst}
+use Rattle.turnstile.proofs.Places.{keeps_more}
 use Rattle.user_admin.specs.declared.turns.UserTook.{UserTook}
+use Rattle.user_admin.specs.Marks.{place_of}
 use Rattle.user_admin.specs.Shared.{asked_in, opening_at}
-use Rattle.user_admin.specs.Turns.{TookIs}
+use Rattle.user_admin.specs.Turns.{TookIs, codes}
 use Rattle.user_admin.proofs.Turning.{rose_behind, stood, took_behind, tried_none, tried_some}
 use Rattle.user_admin.proofs.turns.change.Goals as goal
 
@@ -15,11 +17,11 @@ pub change_in_line-took-requires-clause-seen : goal.change_in_line-took-requires
 change_in_line-took-requires-clause-seen g c = let w = c.requires.seen in let b = tried_none (opening_at g.D.Disk.state c.args.turns.now.first) c.args.pass.now.number w.0 c.args.op c.try_change.new.pass.seen c.in-Ok-None.field-0 c.in-Ok-None.field-0-is (c.in-Ok-None.ensures.took w.0 w.1) in (w.0 ++ b.later, b.saw)
 
 pub returns-in-Ok-None-clause-pass : goal.returns-in-Ok-None-clause-pass
-returns-in-Ok-None-clause-pass g c = (c.change_in_line-took.ensures.pass.0, c.change_in_line-took.ensures.pass.1 ∙ c.try_change.ensures.pass.1)
+returns-in-Ok-None-clause-pass g c = keeps_more codes place_of c.args.turns.now c.args.pass.now c.try_change.new.pass c.change_in_line-took.new.pass c.try_change.ensures.pass c.change_in_line-took.ensures.pass
 
 pub returns-in-Ok-None-clause-took : goal.returns-in-Ok-None-clause-took
 returns-in-Ok-None-clause-took g c = λ h saw. took_behind (opening_at g.D.Disk.state c.args.turns.now.first) c.args.pass.now.number h c.args.op c.try_change.new.pass.seen c.change_in_line-took.new.pass.seen c.change_in_line-took.result (tried_none (opening_at g.D.Disk.state c.args.turns.now.first) c.args.pass.now.number h c.args.op c.try_change.new.pass.seen c.in-Ok-None.field-0 c.in-Ok-None.field-0-is (c.in-Ok-None.ensures.took h saw))
-    (λ k next. subst (λ (n : ℕ). TookIs (opening_at g.D.Disk.state c.args.turns.now.first) n k c.args.op c.change_in_line-took.new.pass.seen c.change_in_line-took.result) c.try_change.ensures.pass.1 (c.change_in_line-took.ensures.took k next))
+    (λ k next. subst (λ (n : ℕ). TookIs (opening_at g.D.Disk.state c.args.turns.now.first) n k c.args.op c.change_in_line-took.new.pass.seen c.change_in_line-took.result) c.try_change.ensures.pass.goes.same.0 (c.change_in_line-took.ensures.took k next))
 
 pub returns-in-Ok-None-clause-stopped : goal.returns-in-Ok-None-clause-stopped
 returns-in-Ok-None-clause-stopped g c = rose_behind _ _ _ _ (stood _ _ c.in-Ok-None.ensures.stopped) c.change_in_line-took.ensures.stopped

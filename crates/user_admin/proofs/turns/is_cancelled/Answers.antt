@@ -1,9 +1,12 @@
 use Rattle.std.proofs.Common.{refl, ◌∙◌, ap}
 use Rattle.std.specs.Prelude.{slice_get}
+use Rattle.turnstile.proofs.Places.{back_pass, found_more}
 use Rattle.user_admin.specs.declared.shared.SharedUsers.{SharedUsers}
+use Rattle.user_admin.specs.Marks.{place_of}
 use Rattle.user_admin.specs.Occupants.{is_out}
 use Rattle.user_admin.specs.Shared.{opening_at}
-use Rattle.user_admin.proofs.Turning.{gives_back, looked_at, numbered_back, pass_back}
+use Rattle.user_admin.specs.Turns.{codes}
+use Rattle.user_admin.proofs.Turning.{gives_back, looked_at, numbered_back}
 use Rattle.user_admin.proofs.Resting.{back_rests}
 use Rattle.user_admin.proofs.turns.is_cancelled.Goals as goal
 
@@ -14,7 +17,7 @@ back-requires-clause-stands g c =
 
 pub returns-clause-pass : goal.returns-clause-pass
 returns-clause-pass g c =
-    pass_back c.args.turns.now c.args.pass.now c.back.new.pass c.requires.pass c.back.ensures.pass.0 c.back.ensures.pass.1 (c.back.ensures.pass.2 ∙ c.enter-turn.ensures.out.0)
+    back_pass codes place_of c.args.turns.now c.args.pass.now c.enter-turn.new.pass c.back.new.pass c.enter-turn.result c.requires.pass c.enter-turn.ensures.turn.1 (found_more c.enter-turn.ensures.found) c.enter-turn.ensures.dated c.enter-turn.ensures.out c.back.ensures.pass c.back.ensures.heard c.back.ensures.dated c.back.ensures.seen
     (numbered_back g.D.Disk.told g.D.Disk.state (opening_at g.D.Disk.state c.args.turns.now.first) c.enter-turn.result.own c.args.turns.now.passes c.args.pass.now.seen c.enter-turn.result.seen c.enter-turn.result.state c.enter-turn.ensures.found c.back.new.pass.seen c.back.ensures.seen)
 
 pub returns-clause-rests : goal.returns-clause-rests

@@ -1,16 +1,19 @@
-use Rattle.std.proofs.Common.{◌≡◌, None, refl, sym, ◌∙◌, ap, subst}
+use Rattle.std.proofs.Common.{◌≡◌, None, sym, ◌∙◌, ap, subst}
+use Rattle.turnstile.proofs.Places.{found_more, left_pass}
 use Rattle.user_admin.specs.declared.op.UserMark.TheVariants.{Entered}
 use Rattle.tl1_users.specs.declared.op.UserOp.{UserOp}
 use Rattle.user_admin.specs.declared.op.UserOutcome.TheVariants.{Answered}
 use Rattle.user_admin.specs.declared.shared.SharedUsers.{SharedUsers}
+use Rattle.user_admin.specs.Marks.{place_of}
 use Rattle.user_admin.specs.Histories.{IsReading}
 use Rattle.user_admin.specs.Occupants.{answered, login_op}
 use Rattle.user_admin.specs.Shared.{opening_at}
 use Rattle.user_admin.specs.Users.{Users}
 use Rattle.user_admin.specs.Verdicts.{login, refusal}
+use Rattle.user_admin.specs.Turns.{codes}
 use Rattle.user_admin.proofs.Occupying.{login_allowed, login_reads}
 use Rattle.user_admin.proofs.Sharing.{shared_answered}
-use Rattle.user_admin.proofs.Turning.{ended, ends, ends_pass, listed_at}
+use Rattle.user_admin.proofs.Turning.{ended, ends, listed_at, numbered_own}
 use Rattle.user_admin.proofs.Resting.{by_out, left_rests}
 use Rattle.user_admin.proofs.turns.login.Goals as goal
 
@@ -21,8 +24,8 @@ leave-requires-clause-stands g c =
 
 pub returns-clause-pass : goal.returns-clause-pass
 returns-clause-pass g c =
-    ends_pass g.D.Disk.told g.D.Disk.state (opening_at g.D.Disk.state c.args.turns.now.first) c.args.pass.now.number c.enter-turn.result.own c.args.turns.now.passes c.args.pass.now.seen c.enter-turn.result.seen c.enter-turn.result.state c.enter-turn.ensures.turn.1 c.enter-turn.ensures.found
-    c.args.turns.now c.args.pass.now c.leave.new.pass (Entered c.number-place.result c.of-op.result Answered) refl refl c.requires.pass (c.leave.ensures.pass.0, c.leave.ensures.pass.1, c.leave.ensures.pass.2 ∙ c.enter-turn.ensures.out.0) (c.number-place.ensures ∙ c.enter-turn.ensures.out.0) c.leave.ensures.seen
+    left_pass codes place_of c.args.turns.now c.args.pass.now c.enter-turn.new.pass c.leave.new.pass c.enter-turn.result _ c.requires.pass c.enter-turn.ensures.turn.1 (found_more c.enter-turn.ensures.found) c.enter-turn.ensures.dated c.enter-turn.ensures.out c.leave.ensures.pass c.leave.ensures.heard c.leave.ensures.dated c.leave.ensures.seen
+    (numbered_own g.D.Disk.told g.D.Disk.state (opening_at g.D.Disk.state c.args.turns.now.first) c.enter-turn.result.own c.args.turns.now.passes c.args.pass.now.seen c.enter-turn.result.seen c.enter-turn.result.state c.enter-turn.ensures.found c.args.pass.now.number (Entered c.number-place.result c.of-op.result Answered) c.leave.new.pass.seen (c.number-place.ensures ∙ c.enter-turn.ensures.out.0) c.requires.pass.2 c.leave.ensures.seen)
 
 pub returns-clause-rests : goal.returns-clause-rests
 returns-clause-rests g c =

@@ -1,19 +1,21 @@
 use Rattle.std.proofs.Common.{◌≡◌, None, [], ◌∷◌, ◌++◌, refl, sym, ◌∙◌, ap, subst}
+use Rattle.turnstile.proofs.Places.{found_more, left_pass}
 use Rattle.user_admin.specs.declared.op.UserMark.TheVariants.{Entered}
 use Rattle.tl1_users.specs.declared.op.UserOp.{UserOp}
 use Rattle.tl1_users.specs.declared.op.UserOp.TheVariants.{Rows}
 use Rattle.user_admin.specs.declared.op.UserOutcome.{UserOutcome}
 use Rattle.user_admin.specs.declared.op.UserOutcome.TheVariants.{Answered}
 use Rattle.user_admin.specs.declared.shared.SharedUsers.{SharedUsers}
+use Rattle.user_admin.specs.Marks.{place_of}
 use Rattle.user_admin.specs.Histories.{IsReading}
 use Rattle.user_admin.specs.Occupants.{answered}
 use Rattle.user_admin.specs.Shared.{SharedFor, opening_at}
 use Rattle.user_admin.specs.States.{entry}
-use Rattle.user_admin.specs.Turns.{Turned}
+use Rattle.user_admin.specs.Turns.{Turned, codes}
 use Rattle.user_admin.specs.Users.{Users}
 use Rattle.user_admin.specs.Verdicts.{Refuses, refusal, rows_in}
 use Rattle.user_admin.proofs.Sharing.{shared_denied, shared_read}
-use Rattle.user_admin.proofs.Turning.{ended, ends, ends_pass, listed_at}
+use Rattle.user_admin.proofs.Turning.{ended, ends, listed_at, numbered_own}
 use Rattle.user_admin.proofs.Resting.{by_out, left_rests}
 use Rattle.user_admin.proofs.turns.rows.Goals as goal
 
@@ -24,8 +26,8 @@ leave-requires-clause-stands g c =
 
 pub returns-in-Ok-clause-pass : goal.returns-in-Ok-clause-pass
 returns-in-Ok-clause-pass g c =
-    ends_pass g.D.Disk.told g.D.Disk.state (opening_at g.D.Disk.state c.args.turns.now.first) c.args.pass.now.number c.enter-turn.result.own c.args.turns.now.passes c.args.pass.now.seen c.enter-turn.result.seen c.enter-turn.result.state c.enter-turn.ensures.turn.1 c.enter-turn.ensures.found
-    c.args.turns.now c.args.pass.now c.leave.new.pass (Entered c.number-place.result c.of-op.result Answered) refl refl c.requires.pass (c.leave.ensures.pass.0, c.leave.ensures.pass.1, c.leave.ensures.pass.2 ∙ c.enter-turn.ensures.out.0) (c.number-place.ensures ∙ c.enter-turn.ensures.out.0) c.leave.ensures.seen
+    left_pass codes place_of c.args.turns.now c.args.pass.now c.enter-turn.new.pass c.leave.new.pass c.enter-turn.result _ c.requires.pass c.enter-turn.ensures.turn.1 (found_more c.enter-turn.ensures.found) c.enter-turn.ensures.dated c.enter-turn.ensures.out c.leave.ensures.pass c.leave.ensures.heard c.leave.ensures.dated c.leave.ensures.seen
+    (numbered_own g.D.Disk.told g.D.Disk.state (opening_at g.D.Disk.state c.args.turns.now.first) c.enter-turn.result.own c.args.turns.now.passes c.args.pass.now.seen c.enter-turn.result.seen c.enter-turn.result.state c.enter-turn.ensures.found c.args.pass.now.number (Entered c.number-place.result c.of-op.result Answered) c.leave.new.pass.seen (c.number-place.ensures ∙ c.enter-turn.ensures.out.0) c.requires.pass.2 c.leave.ensures.seen)
 
 pub returns-in-Ok-clause-rows : goal.returns-in-Ok-clause-rows
 returns-in-Ok-clause-rows g c = λ h saw. (
@@ -41,8 +43,8 @@ leave-requires-in-Err-clause-stands g c =
 
 pub returns-in-Err-clause-pass : goal.returns-in-Err-clause-pass
 returns-in-Err-clause-pass g c =
-    ends_pass g.D.Disk.told g.D.Disk.state (opening_at g.D.Disk.state c.args.turns.now.first) c.args.pass.now.number c.enter-turn.result.own c.args.turns.now.passes c.args.pass.now.seen c.enter-turn.result.seen c.enter-turn.result.state c.enter-turn.ensures.turn.1 c.enter-turn.ensures.found
-    c.args.turns.now c.args.pass.now c.leave-in-Err.new.pass (Entered c.number-place.result c.of-op.result c.refused-outcome.result) refl refl c.requires.pass (c.leave-in-Err.ensures.pass.0, c.leave-in-Err.ensures.pass.1, c.leave-in-Err.ensures.pass.2 ∙ c.enter-turn.ensures.out.0) (c.number-place.ensures ∙ c.enter-turn.ensures.out.0) c.leave-in-Err.ensures.seen
+    left_pass codes place_of c.args.turns.now c.args.pass.now c.enter-turn.new.pass c.leave-in-Err.new.pass c.enter-turn.result _ c.requires.pass c.enter-turn.ensures.turn.1 (found_more c.enter-turn.ensures.found) c.enter-turn.ensures.dated c.enter-turn.ensures.out c.leave-in-Err.ensures.pass c.leave-in-Err.ensures.heard c.leave-in-Err.ensures.dated c.leave-in-Err.ensures.seen
+    (numbered_own g.D.Disk.told g.D.Disk.state (opening_at g.D.Disk.state c.args.turns.now.first) c.enter-turn.result.own c.args.turns.now.passes c.args.pass.now.seen c.enter-turn.result.seen c.enter-turn.result.state c.enter-turn.ensures.found c.args.pass.now.number (Entered c.number-place.result c.of-op.result c.refused-outcome.result) c.leave-in-Err.new.pass.seen (c.number-place.ensures ∙ c.enter-turn.ensures.out.0) c.requires.pass.2 c.leave-in-Err.ensures.seen)
 
 pub returns-in-Err-clause-rows : goal.returns-in-Err-clause-rows
 returns-in-Err-clause-rows g c = λ h saw. subst (λ (u : UserOutcome). Turned (opening_at g.D.Disk.state c.args.turns.now.first) c.args.pass.now.number h (entry c.args.pass.now.number (Rows c.args.which) u) c.leave-in-Err.new.pass.seen) c.refused-outcome.ensures

@@ -1,9 +1,11 @@
-use Rattle.std.proofs.Common.{ℕ, ◌++◌, refl, sym, ◌∙◌, ap, subst}
+use Rattle.std.proofs.Common.{ℕ, ◌++◌, sym, ◌∙◌, ap, subst}
+use Rattle.turnstile.proofs.Places.{back_pass, found_more, left_pass}
 use Rattle.user_admin.specs.declared.shared.SharedUsers.{SharedUsers}
-use Rattle.user_admin.specs.Marks.{mark_for}
+use Rattle.user_admin.specs.Marks.{mark_for, place_of}
 use Rattle.user_admin.specs.Shared.{SharedFor, opening_at}
+use Rattle.user_admin.specs.Turns.{codes}
 use Rattle.user_admin.proofs.Marking.{marked_place}
-use Rattle.user_admin.proofs.Turning.{at_turn, ends, ends_pass, given_by, gives_back, left_by, numbered_back, pass_back, took_back, took_left}
+use Rattle.user_admin.proofs.Turning.{at_turn, ends, given_by, gives_back, left_by, numbered_back, numbered_own, took_back, took_left}
 use Rattle.user_admin.proofs.Resting.{gave_rests, took_rests}
 use Rattle.user_admin.proofs.turns.take.Goals as goal
 
@@ -32,12 +34,12 @@ returns-in-None-clause-took g c = λ h saw.
 
 pub returns-in-Some-clause-pass : goal.returns-in-Some-clause-pass
 returns-in-Some-clause-pass g c =
-    ends_pass g.D.Disk.told g.D.Disk.state (opening_at g.D.Disk.state c.args.turns.now.first) c.args.pass.now.number c.enter-turn.result.own c.args.turns.now.passes c.args.pass.now.seen c.enter-turn.result.seen c.enter-turn.result.state c.enter-turn.ensures.turn.1 c.enter-turn.ensures.found
-    c.args.turns.now c.args.pass.now c.leave.new.pass c.in-Some.mark refl refl c.requires.pass (c.leave.ensures.pass.0, c.leave.ensures.pass.1, c.leave.ensures.pass.2 ∙ c.enter-turn.ensures.out.0) (marked_place c.args.pass.now.number c.args.op.now c.plan-planned.result c.in-Some.mark (ap (λ (n : ℕ). mark_for n c.args.op.now c.plan-planned.result) (sym (c.number.ensures ∙ c.enter-turn.ensures.out.0)) ∙ sym c.mark_of.ensures ∙ c.in-Some.is)) c.leave.ensures.seen
+    left_pass codes place_of c.args.turns.now c.args.pass.now c.enter-turn.new.pass c.leave.new.pass c.enter-turn.result _ c.requires.pass c.enter-turn.ensures.turn.1 (found_more c.enter-turn.ensures.found) c.enter-turn.ensures.dated c.enter-turn.ensures.out c.leave.ensures.pass c.leave.ensures.heard c.leave.ensures.dated c.leave.ensures.seen
+    (numbered_own g.D.Disk.told g.D.Disk.state (opening_at g.D.Disk.state c.args.turns.now.first) c.enter-turn.result.own c.args.turns.now.passes c.args.pass.now.seen c.enter-turn.result.seen c.enter-turn.result.state c.enter-turn.ensures.found c.args.pass.now.number c.in-Some.mark c.leave.new.pass.seen (marked_place c.args.pass.now.number c.args.op.now c.plan-planned.result c.in-Some.mark (ap (λ (n : ℕ). mark_for n c.args.op.now c.plan-planned.result) (sym (c.number.ensures ∙ c.enter-turn.ensures.out.0)) ∙ sym c.mark_of.ensures ∙ c.in-Some.is)) c.requires.pass.2 c.leave.ensures.seen)
 
 pub returns-in-None-clause-pass : goal.returns-in-None-clause-pass
 returns-in-None-clause-pass g c =
-    pass_back c.args.turns.now c.args.pass.now c.back.new.pass c.requires.pass c.back.ensures.pass.0 c.back.ensures.pass.1 (c.back.ensures.pass.2 ∙ c.enter-turn.ensures.out.0)
+    back_pass codes place_of c.args.turns.now c.args.pass.now c.enter-turn.new.pass c.back.new.pass c.enter-turn.result c.requires.pass c.enter-turn.ensures.turn.1 (found_more c.enter-turn.ensures.found) c.enter-turn.ensures.dated c.enter-turn.ensures.out c.back.ensures.pass c.back.ensures.heard c.back.ensures.dated c.back.ensures.seen
     (numbered_back g.D.Disk.told g.D.Disk.state (opening_at g.D.Disk.state c.args.turns.now.first) c.enter-turn.result.own c.args.turns.now.passes c.args.pass.now.seen c.enter-turn.result.seen c.enter-turn.result.state c.enter-turn.ensures.found c.back.new.pass.seen c.back.ensures.seen)
 
 pub returns-in-Some-clause-rests : goal.returns-in-Some-clause-rests

@@ -8,7 +8,8 @@ use Rattle.xc_core.specs.declared.state.State.{State}
 use Rattle.xc_core.specs.States.{opening_of}
 use Rattle.xc_core.specs.Seeing.{Saw, entry}
 use Rattle.xc_core.specs.Turns.{LookIs}
-use Rattle.craft_session.specs.Seats.{SeatAt, seat_at}
+use Rattle.craft_session.specs.Seats.{SeatAt, SeatGoesOn, seat_at}
+use Rattle.craft_session.proofs.Keeping.{seat_goes}
 use Rattle.craft_session.proofs.Seating.{saw_there, seated_on, turned_ended}
 use Rattle.std.specs.List.{AllByRecursion}
 use Rattle.dxc_num.specs.Dimensions.{Dimensions}
@@ -23,7 +24,7 @@ invariant_of-self g c =
     let w = c.self.invariant.2 in
     let o = opening_of g.D.Disk.state c.deref.result.now.first in
     let turn = c.look.ensures.look w.0 (saw_there g.D.Disk.told g.D.Disk.state p t c.deref.result.now w.0 c.deref.ensures w.1) in
-    seated_on g.D.Disk.told g.D.Disk.state p c.look.new.pass t c.deref.result.now (arc_value c.self.inside.fabric) c.deref.ensures c.self.invariant c.look.ensures.pass.0 c.look.ensures.pass.1
+    seated_on g.D.Disk.told g.D.Disk.state p c.look.new.pass t c.deref.result.now (arc_value c.self.inside.fabric) c.deref.ensures c.self.invariant c.look.ensures.pass.has c.look.ensures.pass.goes.same.0
     (turned_ended o p.number w.0 (entry p.number (Look c.args.cursor) Answered) c.look.new.pass.seen refl (λ is. cc) turn.0) c.look.ensures.astray
 
 pub returns-clause-look : goal.returns-clause-look
@@ -36,3 +37,9 @@ returns-clause-of_shape g c =
     let eq = ap (λ (t : TurnstileView (State g.row.D.Denot)). seat_at g.D.Disk.state c.self.inside.pass t) c.deref.ensures ∙ c.self.view_is in
     subst (λ (d : Dimensions). AllByRecursion (IsChangeOf d) c.look.new.into.items) (ap (λ (s : SeatAt). s.opening.first.fold.table.shape) eq)
     (apt_changes (opening_of g.D.Disk.state c.deref.result.now.first).first.fold.table.shape c.look.new.into.items c.look.ensures.apt)
+
+pub returns-clause-goes : goal.returns-clause-goes
+returns-clause-goes g c =
+    let t = arc_value c.self.inside.turns in
+    let eq = ap (λ (x : TurnstileView (State g.row.D.Denot)). seat_at g.D.Disk.state c.self.inside.pass x) c.deref.ensures ∙ c.self.view_is in
+    subst (λ (s : SeatAt). SeatGoesOn s (seat_at g.D.Disk.state c.look.new.pass t)) eq (seat_goes g.D.Disk.state c.self.inside.pass c.look.new.pass t c.deref.result.now c.look.ensures.pass)

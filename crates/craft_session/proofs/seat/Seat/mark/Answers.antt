@@ -8,7 +8,8 @@ use Rattle.xc_core.specs.declared.state.State.{State}
 use Rattle.xc_core.specs.States.{opening_of}
 use Rattle.xc_core.specs.Seeing.{Saw, entry}
 use Rattle.xc_core.specs.Turns.{MarkIs}
-use Rattle.craft_session.specs.Seats.{SeatAt, seat_at}
+use Rattle.craft_session.specs.Seats.{SeatAt, SeatGoesOn, seat_at}
+use Rattle.craft_session.proofs.Keeping.{seat_goes}
 use Rattle.craft_session.proofs.Seating.{saw_there, seated_on, turned_ended}
 use Rattle.craft_session.proofs.seat.Seat.mark.Goals as goal
 
@@ -19,10 +20,16 @@ invariant_of-self g c =
     let w = c.self.invariant.2 in
     let o = opening_of g.D.Disk.state c.deref.result.now.first in
     let turn = c.mark.ensures.mark w.0 (saw_there g.D.Disk.told g.D.Disk.state p t c.deref.result.now w.0 c.deref.ensures w.1) in
-    seated_on g.D.Disk.told g.D.Disk.state p c.mark.new.pass t c.deref.result.now (arc_value c.self.inside.fabric) c.deref.ensures c.self.invariant c.mark.ensures.pass.0 c.mark.ensures.pass.1
+    seated_on g.D.Disk.told g.D.Disk.state p c.mark.new.pass t c.deref.result.now (arc_value c.self.inside.fabric) c.deref.ensures c.self.invariant c.mark.ensures.pass.has c.mark.ensures.pass.goes.same.0
     (turned_ended o p.number w.0 (entry p.number (Look c.mark.result) Answered) c.mark.new.pass.seen refl (λ is. cc) turn.0) c.mark.ensures.astray
 
 pub returns-clause-mark : goal.returns-clause-mark
 returns-clause-mark g c =
     let eq = ap (λ (t : TurnstileView (State g.row.D.Denot)). seat_at g.D.Disk.state c.self.inside.pass t) c.deref.ensures ∙ c.self.view_is in
     subst (λ (s : SeatAt). (h : List Entry) → Saw s.opening s.seen h → MarkIs s.opening s.place h c.mark.new.pass.seen c.mark.result) eq c.mark.ensures.mark
+
+pub returns-clause-goes : goal.returns-clause-goes
+returns-clause-goes g c =
+    let t = arc_value c.self.inside.turns in
+    let eq = ap (λ (x : TurnstileView (State g.row.D.Denot)). seat_at g.D.Disk.state c.self.inside.pass x) c.deref.ensures ∙ c.self.view_is in
+    subst (λ (s : SeatAt). SeatGoesOn s (seat_at g.D.Disk.state c.mark.new.pass t)) eq (seat_goes g.D.Disk.state c.self.inside.pass c.mark.new.pass t c.deref.result.now c.mark.ensures.pass)

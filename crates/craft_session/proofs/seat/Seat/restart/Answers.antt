@@ -7,7 +7,8 @@ use Rattle.xc_core.specs.Seeing.{Saw}
 use Rattle.xc_core.specs.States.{opening_of}
 use Rattle.craft_session.specs.Changing.{WarmRestartIs}
 use Rattle.craft_session.specs.Gated.{Entered}
-use Rattle.craft_session.specs.Seats.{SeatAt, seat_at}
+use Rattle.craft_session.specs.Seats.{SeatAt, SeatGoesOn, seat_at}
+use Rattle.craft_session.proofs.Keeping.{seat_goes}
 use Rattle.craft_session.proofs.Seating.{restarted_ended, saw_there, seated_on}
 use Rattle.craft_session.proofs.seat.Seat.restart.Goals as goal
 
@@ -18,7 +19,7 @@ invariant_of-self g c =
     let w = c.self.invariant.2 in
     let o = opening_of g.D.Disk.state c.deref-turns.result.now.first in
     let turn = c.warm_restart-restarted.ensures.restarted w.0 (saw_there g.D.Disk.told g.D.Disk.state p t c.deref-turns.result.now w.0 c.deref-turns.ensures w.1) in
-    seated_on g.D.Disk.told g.D.Disk.state p c.warm_restart-restarted.new.pass t c.deref-turns.result.now (arc_value c.self.inside.fabric) c.deref-turns.ensures c.self.invariant c.warm_restart-restarted.ensures.pass.0 c.warm_restart-restarted.ensures.pass.1
+    seated_on g.D.Disk.told g.D.Disk.state p c.warm_restart-restarted.new.pass t c.deref-turns.result.now (arc_value c.self.inside.fabric) c.deref-turns.ensures c.self.invariant c.warm_restart-restarted.ensures.pass.has c.warm_restart-restarted.ensures.pass.goes.same.0
     (restarted_ended o p.number w.0 c.warm_restart-restarted.new.pass.seen c.warm_restart-restarted.result turn) c.warm_restart-restarted.ensures.astray
 
 pub returns-clause-entered : goal.returns-clause-entered
@@ -30,3 +31,9 @@ pub returns-clause-restarted : goal.returns-clause-restarted
 returns-clause-restarted g c =
     let eq = ap (λ (t : TurnstileView (State g.row.D.Denot)). seat_at g.D.Disk.state c.self.inside.pass t) c.deref-turns.ensures ∙ c.self.view_is in
     subst (λ (s : SeatAt). (h : List Entry) → Saw s.opening s.seen h → WarmRestartIs s.opening s.place h c.warm_restart-restarted.new.pass.seen c.warm_restart-restarted.result) eq c.warm_restart-restarted.ensures.restarted
+
+pub returns-clause-goes : goal.returns-clause-goes
+returns-clause-goes g c =
+    let t = arc_value c.self.inside.turns in
+    let eq = ap (λ (x : TurnstileView (State g.row.D.Denot)). seat_at g.D.Disk.state c.self.inside.pass x) c.deref-turns.ensures ∙ c.self.view_is in
+    subst (λ (s : SeatAt). SeatGoesOn s (seat_at g.D.Disk.state c.warm_restart-restarted.new.pass t)) eq (seat_goes g.D.Disk.state c.self.inside.pass c.warm_restart-restarted.new.pass t c.deref-turns.result.now c.warm_restart-restarted.ensures.pass)

@@ -8,7 +8,8 @@ use Rattle.user_admin.specs.Occupants.{login_op}
 use Rattle.user_admin.specs.Shared.{opening_at}
 use Rattle.user_admin.specs.States.{entry}
 use Rattle.user_admin.specs.Turns.{LoggedIn, Saw}
-use Rattle.craft_session.specs.Seats.{UserSeatAt, user_seat_at}
+use Rattle.craft_session.specs.Seats.{UserSeatAt, UserSeatGoesOn, user_seat_at}
+use Rattle.craft_session.proofs.Keeping.{user_seat_goes}
 use Rattle.craft_session.proofs.Seating.{turn_seen, user_seated_on, users_saw_there}
 use Rattle.craft_session.proofs.users.UserSeat.login.Goals as goal
 
@@ -19,9 +20,15 @@ invariant_of-self g c =
     let w = c.self.invariant.1 in
     let o = opening_at g.U.Disk.state c.deref.result.now.first in
     let turn = c.login.ensures.logged w.0 (users_saw_there g.U.Disk.state p t c.deref.result.now w.0 c.deref.ensures w.1) in
-    user_seated_on g.U.Disk.state c.login.new.pass t c.deref.result.now c.deref.ensures c.login.ensures.pass.0 (turn_seen o p.number w.0 (entry p.number (login_op c.args.vacant c.args.uid c.login.result) Answered) c.login.new.pass.seen turn.0) (c.login.ensures.rests c.self.invariant.2)
+    user_seated_on g.U.Disk.state c.login.new.pass t c.deref.result.now c.deref.ensures c.login.ensures.pass.has (turn_seen o p.number w.0 (entry p.number (login_op c.args.vacant c.args.uid c.login.result) Answered) c.login.new.pass.seen turn.0) (c.login.ensures.rests c.self.invariant.2)
 
 pub returns-clause-logged : goal.returns-clause-logged
 returns-clause-logged g c =
     let eq = ap (λ (t : TurnstileView (SharedUsers g.row.U.Denot)). user_seat_at g.U.Disk.state c.self.inside.pass t) c.deref.ensures ∙ c.self.view_is in
     subst (λ (s : UserSeatAt). (h : List UserEntry) → Saw s.opening s.seen h → LoggedIn s.opening s.place h (record { vacant = c.args.vacant; uid = c.args.uid; pid = c.args.pid.now }) c.login.new.pass.seen c.login.result) eq c.login.ensures.logged
+
+pub returns-clause-goes : goal.returns-clause-goes
+returns-clause-goes g c =
+    let t = arc_value c.self.inside.turns in
+    let eq = ap (λ (x : TurnstileView (SharedUsers g.row.U.Denot)). user_seat_at g.U.Disk.state c.self.inside.pass x) c.deref.ensures ∙ c.self.view_is in
+    subst (λ (s : UserSeatAt). UserSeatGoesOn s (user_seat_at g.U.Disk.state c.login.new.pass t)) eq (user_seat_goes g.U.Disk.state c.self.inside.pass c.login.new.pass t c.deref.result.now c.login.ensures.pass)

@@ -6,7 +6,8 @@ use Rattle.user_admin.specs.declared.op.UserEntry.{UserEntry}
 use Rattle.user_admin.specs.declared.shared.SharedUsers.{SharedUsers}
 use Rattle.user_admin.specs.Shared.{opening_at}
 use Rattle.user_admin.specs.Turns.{RowsAre, RowsDenied, Saw}
-use Rattle.craft_session.specs.Seats.{UserSeatAt, user_seat_at}
+use Rattle.craft_session.specs.Seats.{UserSeatAt, UserSeatGoesOn, user_seat_at}
+use Rattle.craft_session.proofs.Keeping.{user_seat_goes}
 use Rattle.craft_session.proofs.Seating.{rows_seen, user_seated_on, users_saw_there}
 use Rattle.craft_session.proofs.users.UserSeat.rows.Goals as goal
 
@@ -17,9 +18,15 @@ invariant_of-self g c =
     let w = c.self.invariant.1 in
     let o = opening_at g.U.Disk.state c.deref.result.now.first in
     let turn = c.rows.ensures.rows w.0 (users_saw_there g.U.Disk.state p t c.deref.result.now w.0 c.deref.ensures w.1) in
-    user_seated_on g.U.Disk.state c.rows.new.pass t c.deref.result.now c.deref.ensures c.rows.ensures.pass.0 (rows_seen o p.number w.0 c.args.which c.rows.new.pass.seen (λ x. x.items) c.rows.result turn) (c.rows.ensures.rests c.self.invariant.2)
+    user_seated_on g.U.Disk.state c.rows.new.pass t c.deref.result.now c.deref.ensures c.rows.ensures.pass.has (rows_seen o p.number w.0 c.args.which c.rows.new.pass.seen (λ x. x.items) c.rows.result turn) (c.rows.ensures.rests c.self.invariant.2)
 
 pub returns-clause-rows : goal.returns-clause-rows
 returns-clause-rows g c =
     let eq = ap (λ (t : TurnstileView (SharedUsers g.row.U.Denot)). user_seat_at g.U.Disk.state c.self.inside.pass t) c.deref.ensures ∙ c.self.view_is in
     subst (λ (s : UserSeatAt). (h : List UserEntry) → Saw s.opening s.seen h → MatchResult c.rows.result (λ given. RowsAre s.opening s.place h c.args.which c.rows.new.pass.seen given.items) (RowsDenied s.opening s.place h c.args.which c.rows.new.pass.seen)) eq c.rows.ensures.rows
+
+pub returns-clause-goes : goal.returns-clause-goes
+returns-clause-goes g c =
+    let t = arc_value c.self.inside.turns in
+    let eq = ap (λ (x : TurnstileView (SharedUsers g.row.U.Denot)). user_seat_at g.U.Disk.state c.self.inside.pass x) c.deref.ensures ∙ c.self.view_is in
+    subst (λ (s : UserSeatAt). UserSeatGoesOn s (user_seat_at g.U.Disk.state c.rows.new.pass t)) eq (user_seat_goes g.U.Disk.state c.self.inside.pass c.rows.new.pass t c.deref.result.now c.rows.ensures.pass)

@@ -1,12 +1,13 @@
 use Rattle.std.proofs.Common.{List, ◌++◌, refl, sym, ◌∙◌, ap, subst}
+use Rattle.turnstile.proofs.Places.{found_more, left_pass}
 use Rattle.dxc_model.specs.declared.entry.Entry.{Entry}
 use Rattle.dxc_model.specs.declared.entry.Outcome.TheVariants.{Done}
 use Rattle.xc_core.specs.declared.state.State.{State}
-use Rattle.xc_core.specs.Seeing.{entry}
+use Rattle.xc_core.specs.Seeing.{codes, entry, place_of}
 use Rattle.xc_core.specs.States.{StandsFor, opening_of}
 use Rattle.xc_core.specs.Turns.{DoneIs}
 use Rattle.xc_core.proofs.Away.{taken_since}
-use Rattle.xc_core.proofs.Turning.{astray_own, found_at, leave_stands, numbered_own, pass_back, saw_once, seen_own, turned}
+use Rattle.xc_core.proofs.Turning.{astray_own, found_at, leave_stands, numbered_own, saw_once, seen_own, turned}
 use Rattle.xc_core.proofs.turns.changes.bring.Goals as goal
 
 pub bring-change-requires-clause-taken : goal.bring-change-requires-clause-taken
@@ -47,7 +48,7 @@ returns-clause-done g c = λ h saw.
 
 pub returns-clause-pass : goal.returns-clause-pass
 returns-clause-pass g c =
-    pass_back c.args.turns.now c.args.pass.now c.leave.new.pass c.requires.pass c.leave.ensures.pass.0 c.leave.ensures.pass.1 (c.leave.ensures.pass.2 ∙ c.enter-turn.ensures.out.0)
+    left_pass codes place_of c.args.turns.now c.args.pass.now c.enter-turn.new.pass c.leave.new.pass c.enter-turn.result _ c.requires.pass c.enter-turn.ensures.turn.1 (found_more c.enter-turn.ensures.found) c.enter-turn.ensures.dated c.enter-turn.ensures.out c.leave.ensures.pass c.leave.ensures.heard c.leave.ensures.dated c.leave.ensures.seen
     (numbered_own g.D.Disk.told g.D.Disk.state (opening_of g.D.Disk.state c.args.turns.now.first) c.enter-turn.result.own c.args.turns.now.passes c.args.pass.now.seen c.enter-turn.result.seen c.enter-turn.result.state c.enter-turn.ensures.found c.args.pass.now.number c.number-place.result c.args.op.now (Done c.bring-change.result) c.leave.new.pass.seen (c.number-place.ensures ∙ c.enter-turn.ensures.out.0) c.requires.pass.2 c.leave.ensures.seen)
 
 pub returns-clause-astray : goal.returns-clause-astray

@@ -1,4 +1,5 @@
 use Rattle.std.proofs.Common.{List, Option, Some, ◌++◌, refl, sym, ◌∙◌, ap, subst}
+use Rattle.turnstile.proofs.Places.{back_pass, found_more, left_pass}
 use Rattle.dxc_num.specs.Dimensions.{Dimensions}
 use Rattle.dxc_model.specs.declared.cause.Cause.{Cause}
 use Rattle.dxc_model.specs.declared.entry.Entry.{Entry}
@@ -6,11 +7,11 @@ use Rattle.dxc_model.specs.declared.entry.Outcome.{Outcome}
 use Rattle.dxc_model.specs.Operations.{IsApt}
 use Rattle.xc_core.specs.declared.state.State.{State}
 use Rattle.xc_core.specs.declared.turns.Took.TheVariants as took
-use Rattle.xc_core.specs.Seeing.{TurnedBack}
+use Rattle.xc_core.specs.Seeing.{TurnedBack, codes, place_of}
 use Rattle.xc_core.specs.States.{StandsFor, opening_of}
 use Rattle.xc_core.specs.Turns.{TakenIs, TookIs}
 use Rattle.xc_core.specs.Views.{DeniesIn}
-use Rattle.xc_core.proofs.Turning.{astray_back, astray_own, back_stands, found_at, leave_stands, numbered_back, numbered_own, pass_back, rests_behind, saw_once, seen_own, state_shape, taken_stands, took_entry, turned_back}
+use Rattle.xc_core.proofs.Turning.{astray_back, astray_own, back_stands, found_at, leave_stands, numbered_back, numbered_own, rests_behind, saw_once, seen_own, state_shape, taken_stands, took_entry, turned_back}
 use Rattle.xc_core.proofs.turns.changes.deny.Goals as goal
 
 pub deny-requires : goal.deny-requires
@@ -54,12 +55,12 @@ returns-in-None-clause-denied g c = λ h saw.
 
 pub returns-in-Some-clause-pass : goal.returns-in-Some-clause-pass
 returns-in-Some-clause-pass g c =
-    pass_back c.args.turns.now c.args.pass.now c.leave.new.pass c.requires.pass c.leave.ensures.pass.0 c.leave.ensures.pass.1 (c.leave.ensures.pass.2 ∙ c.enter-turn.ensures.out.0)
+    left_pass codes place_of c.args.turns.now c.args.pass.now c.enter-turn.new.pass c.leave.new.pass c.enter-turn.result _ c.requires.pass c.enter-turn.ensures.turn.1 (found_more c.enter-turn.ensures.found) c.enter-turn.ensures.dated c.enter-turn.ensures.out c.leave.ensures.pass c.leave.ensures.heard c.leave.ensures.dated c.leave.ensures.seen
     (numbered_own g.D.Disk.told g.D.Disk.state (opening_of g.D.Disk.state c.args.turns.now.first) c.enter-turn.result.own c.args.turns.now.passes c.args.pass.now.seen c.enter-turn.result.seen c.enter-turn.result.state c.enter-turn.ensures.found c.args.pass.now.number c.number-place.result c.args.op.now c.refused-outcome.result c.leave.new.pass.seen (c.number-place.ensures ∙ c.enter-turn.ensures.out.0) c.requires.pass.2 c.leave.ensures.seen)
 
 pub returns-in-None-clause-pass : goal.returns-in-None-clause-pass
 returns-in-None-clause-pass g c =
-    pass_back c.args.turns.now c.args.pass.now c.back.new.pass c.requires.pass c.back.ensures.pass.0 c.back.ensures.pass.1 (c.back.ensures.pass.2 ∙ c.enter-turn.ensures.out.0)
+    back_pass codes place_of c.args.turns.now c.args.pass.now c.enter-turn.new.pass c.back.new.pass c.enter-turn.result c.requires.pass c.enter-turn.ensures.turn.1 (found_more c.enter-turn.ensures.found) c.enter-turn.ensures.dated c.enter-turn.ensures.out c.back.ensures.pass c.back.ensures.heard c.back.ensures.dated c.back.ensures.seen
     (numbered_back g.D.Disk.told g.D.Disk.state (opening_of g.D.Disk.state c.args.turns.now.first) c.enter-turn.result.own c.args.turns.now.passes c.args.pass.now.seen c.enter-turn.result.seen c.enter-turn.result.state c.enter-turn.ensures.found c.back.new.pass.seen c.back.ensures.seen)
 
 pub returns-in-Some-clause-astray : goal.returns-in-Some-clause-astray

@@ -1,6 +1,7 @@
 use Rattle.std.proofs.Common.{◌≡◌, List, ◌++◌, refl, sym, ◌∙◌, ap, subst, inr}
 use Rattle.std.specs.Prelude.{ℕ, filter, Option, IfSome}
 use Rattle.std.specs.List.{range_with_len}
+use Rattle.turnstile.proofs.Places.{found_more, left_pass}
 use Rattle.dxc_num.specs.declared.port.Middle.{Middle}
 use Rattle.dxc_num.specs.Dimensions.{Dimensions, IsWorking}
 use Rattle.dxc_model.specs.Equipment.{has_bit}
@@ -10,11 +11,11 @@ use Rattle.dxc_model.specs.declared.entry.Outcome.TheVariants.{Answered}
 use Rattle.dxc_model.specs.declared.op.Op.TheVariants.{Look}
 use Rattle.dbchg_reports.specs.Recent.{Recent}
 use Rattle.xc_core.specs.declared.state.State.{State}
-use Rattle.xc_core.specs.Seeing.{entry}
+use Rattle.xc_core.specs.Seeing.{codes, entry, place_of}
 use Rattle.xc_core.specs.States.{opening_of}
 use Rattle.xc_core.specs.Turns.{InventoryIs}
 use Rattle.xc_core.proofs.Standing.{table_is}
-use Rattle.xc_core.proofs.Turning.{astray_own, found_at, leave_stands, numbered_own, pass_back, saw_once, seen_own, state_shape, turned, turned_read}
+use Rattle.xc_core.proofs.Turning.{astray_own, found_at, leave_stands, numbered_own, saw_once, seen_own, state_shape, turned, turned_read}
 use Rattle.xc_core.proofs.turns.looks.read_inventory.Goals as goal
 
 pub leave-requires-clause-stands : goal.leave-requires-clause-stands
@@ -49,7 +50,7 @@ returns-clause-of_shape g c =
 
 pub returns-clause-pass : goal.returns-clause-pass
 returns-clause-pass g c =
-    pass_back c.args.turns.now c.args.pass.now c.leave.new.pass c.requires.pass c.leave.ensures.pass.0 c.leave.ensures.pass.1 (c.leave.ensures.pass.2 ∙ c.enter-turn.ensures.out.0)
+    left_pass codes place_of c.args.turns.now c.args.pass.now c.enter-turn.new.pass c.leave.new.pass c.enter-turn.result _ c.requires.pass c.enter-turn.ensures.turn.1 (found_more c.enter-turn.ensures.found) c.enter-turn.ensures.dated c.enter-turn.ensures.out c.leave.ensures.pass c.leave.ensures.heard c.leave.ensures.dated c.leave.ensures.seen
     (numbered_own g.D.Disk.told g.D.Disk.state (opening_of g.D.Disk.state c.args.turns.now.first) c.enter-turn.result.own c.args.turns.now.passes c.args.pass.now.seen c.enter-turn.result.seen c.enter-turn.result.state c.enter-turn.ensures.found c.args.pass.now.number c.number-place.result (Look c.newest-newest.result) Answered c.leave.new.pass.seen (c.number-place.ensures ∙ c.enter-turn.ensures.out.0) c.requires.pass.2 c.leave.ensures.seen)
 
 pub returns-clause-astray : goal.returns-clause-astray
