@@ -28,10 +28,10 @@ use Rattle.roll_engine.proofs.Going.{rest_some, next, some_left, goes_none, goes
 use Rattle.roll_engine.proofs.Running.{runs_join}
 use Rattle.roll_engine.proofs.Leading.{advances_on}
 
-pub not_stopped : Ok tt ≡ Err Stopped → ⊥
+pub not_stopped : ◌≡◌ {A = Answer} (Ok tt) (Err Stopped) → ⊥
 not_stopped e = cc
 
-pub frame_goes : (f : ℕ) → Err (InFrame f) ≡ Err Stopped → ⊥
+pub frame_goes : (f : ℕ) → ◌≡◌ {A = Answer} (Err (InFrame f)) (Err Stopped) → ⊥
 frame_goes f e = cc
 
 -- the answer of a call that was halted, which `?` handed on
@@ -136,7 +136,7 @@ module _ {G : Type 0} (stops : G → ℕ) (asks : G → G → List GatePlace →
       asked = subst (asks g g') (ap (λ (places : List GatePlace). places ++ Register ∷ []) (sym (asked_nothing (rest_of r))) ∙ asked_stopped (rest_of r) (rest_of r)) told;
     }
 
-    pub walks_halted : (h : Halt) → StepIs z w m m' (Err h) → RoseOnlyFor (stops g) (stops g') (Err h ≡ Err Stopped) → asks g g' (asked_at_step (Err h)) → Walks stops asks z r r m m' g g' (Err h)
+    pub walks_halted : (h : Halt) → StepIs z w m m' (Err h) → RoseOnlyFor (stops g) (stops g') (◌≡◌ {A = Answer} (Err h) (Err Stopped)) → asks g g' (asked_at_step (Err h)) → Walks stops asks z r r m m' g g' (Err h)
     walks_halted (InFrame f) is stopped told = walks_in_frame f is (stopped.only (frame_goes f)) told
     walks_halted Stopped is stopped told = walks_stopped is.0 is.1 (stopped.cause refl) stopped.later told
 

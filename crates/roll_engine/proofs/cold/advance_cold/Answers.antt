@@ -20,8 +20,8 @@ use Rattle.roll_engine.proofs.Walking.{handed_on, not_done, not_stopped}
 use Rattle.roll_engine.proofs.Leading.{IsOnWay, all_advances, answer_on, behind_kept, led_to_rest, leading_ready, way_begun, way_next, way_on}
 use Rattle.roll_engine.proofs.cold.advance_cold.Goals as goal
 
-pub loop-halted-init : goal.loop-halted-init
-loop-halted-init g c = record {
+pub loop-rolling-init : goal.loop-rolling-init
+loop-rolling-init g c = record {
   fabric = refl;
   way = way_begun c.args.mover.now.fabric.size c.args.matrix.now c.args.rolling.now c.args.mover.now.mover c.requires.leading;
   kept = λ h. h;
@@ -41,7 +41,7 @@ asked_on_way z k first old new m a b answer h goes =
     ∙ asked_behind (left_of k m first) (left_of k a old) (left_of k b new) h.advances.writes one.writes answer h.advances.split one.split
 
 pub advance-requires-clause-ready : goal.advance-requires-clause-ready
-advance-requires-clause-ready g c = let i = c.loop-halted.invariant in let r = c.loop-halted.rolling in let m : Mover = c.loop-halted.mover.mover in
+advance-requires-clause-ready g c = let i = c.loop-rolling.invariant in let r = c.loop-rolling.rolling in let m : Mover = c.loop-rolling.mover.mover in
     subst (λ (f : FabricId). IsReady f.size (rest_of r) m) (sym i.fabric) (leading_ready c.args.mover.now.fabric.size c.args.matrix.now r m i.way.leading)
 
 -- a cold rolling stays one while its work in hand is made
@@ -51,12 +51,12 @@ still_cold z old new m m' h cold e = cold (sym h.behind ∙ e)
 pub returns-in_err-advance : goal.returns-in_err-advance
 returns-in_err-advance g c =
     let z : Size = c.args.mover.now.fabric.size in let k : Colouring = c.args.matrix.now in
-    let i = c.loop-halted.invariant in let r = c.loop-halted.rolling in let first = c.args.rolling.now in
-    let m : Mover = c.args.mover.now.mover in let a : Mover = c.loop-halted.mover.mover in
+    let i = c.loop-rolling.invariant in let r = c.loop-rolling.rolling in let first = c.args.rolling.now in
+    let m : Mover = c.args.mover.now.mover in let a : Mover = c.loop-rolling.mover.mover in
     let r' : RollingAt = c.advance.new.rolling in let b : Mover = c.advance.new.mover.mover in
     let is : c.advance.result ≡ c.from_residual.result = handed_on c.advance.result c.from_residual.result c.in_err-advance.field-0.0 c.in_err-advance.was c.from_residual.ensures.1 in
     let goes : GoesOn z r r' a b = subst (λ (f : FabricId). GoesOn f.size r r' a b) i.fabric c.advance.ensures.goes_on in
-    let way = way_on z c.loop-halted.mover.fabric k first r r' m a b (ap (λ (f : FabricId). f.size) i.fabric) i.way c.advance.ensures.goes_on in
+    let way = way_on z c.loop-rolling.mover.fabric k first r r' m a b (ap (λ (f : FabricId). f.size) i.fabric) i.way c.advance.ensures.goes_on in
     let halted : c.from_residual.result ≢ Ok tt = not_done c.from_residual.result c.from_residual.ensures.0 in
     let answer : AnswerIs z (left_of k m first) (left_of k b r') m b (c.from_residual.result)
     = answer_on z k first r r' m a b (c.from_residual.result) i.way.advances goes halted (subst (λ (p : FabricId × Answer). AnswerIs p.0.size (rest_of r) (rest_of r') a b p.1) (λ t. (i.fabric t, is t)) c.advance.ensures.answer) in
@@ -73,7 +73,7 @@ returns-in_err-advance g c =
       stopped = subst (λ (p : ℕ × Answer). RoseOnlyFor p.0 (g.G.Gate.stops c.advance.new.gate) (p.1 ≡ Err Stopped)) (λ t. (i.unstopped t, is t)) c.advance.ensures.stopped;
       asked = subst (λ (places : List GatePlace). g.G.Gate.asked c.args.gate.now c.advance.new.gate places)
           (ap (λ (x : Answer). asked_at (left_of k m first) (left_of k a r) (Ok tt) ++ asked_at (rest_of r) (rest_of r') x) is ∙ asked_on_way z k first r r' m a b (c.from_residual.result) i.way goes)
-          (g.G.Gate.asked_on c.args.gate.now c.loop-halted.gate c.advance.new.gate (asked_at (left_of k m first) (left_of k a r) (Ok tt)) (asked_at (rest_of r) (rest_of r') c.advance.result) i.asked c.advance.ensures.asked);
+          (g.G.Gate.asked_on c.args.gate.now c.loop-rolling.gate c.advance.new.gate (asked_at (left_of k m first) (left_of k a r) (Ok tt)) (asked_at (rest_of r) (rest_of r') c.advance.result) i.asked c.advance.ensures.asked);
     }
 
 pub take_next-requires-clause-shape : goal.take_next-requires-clause-shape
@@ -82,21 +82,21 @@ take_next-requires-clause-shape g c = c.requires.leading.leading.shape ∙ ap (�
 pub returns-then-not-take_next : goal.returns-then-not-take_next
 returns-then-not-take_next g c =
     let z : Size = c.args.mover.now.fabric.size in let k : Colouring = c.args.matrix.now in
-    let i = c.loop-halted.invariant in let r = c.loop-halted.rolling in let first = c.args.rolling.now in
-    let m : Mover = c.args.mover.now.mover in let a : Mover = c.loop-halted.mover.mover in
+    let i = c.loop-rolling.invariant in let r = c.loop-rolling.rolling in let first = c.args.rolling.now in
+    let m : Mover = c.args.mover.now.mover in let a : Mover = c.loop-rolling.mover.mover in
     let r' : RollingAt = c.advance.new.rolling in let b : Mover = c.advance.new.mover.mover in
     let then : RollingAt = c.take_next.new.self in let b' : Mover = c.take_next.new.mover.mover in
     let sized = ap (λ (f : FabricId). f.size) i.fabric in
     let goes : GoesOn z r r' a b = subst (λ (f : FabricId). GoesOn f.size r r' a b) i.fabric c.advance.ensures.goes_on in
     let stays : b' ≡ b = ap (λ (s : MoverAt). s.mover) c.take_next.ensures.mover in
-    let way = way_next z c.loop-halted.mover.fabric k first r r' then m a b b' sized stays c.take_next.ensures.same i.way c.advance.ensures.goes_on in
+    let way = way_next z c.loop-rolling.mover.fabric k first r r' then m a b b' sized stays c.take_next.ensures.same i.way c.advance.ensures.goes_on in
     let same = c.advance.ensures.stopped.only (λ e. not_stopped (sym c.in_ok-advance.was ∙ e)) ∙ i.unstopped in
     let left : left_of k b r' ≡ left_of k b' then = sym c.take_next.ensures.same ∙ ap (λ (x : Mover). left_of k x then) (sym stays) in
     let asked : g.G.Gate.asked c.args.gate.now c.advance.new.gate (asked_at (left_of k m first) (left_of k b' then) (Ok tt))
     = subst (λ (places : List GatePlace). g.G.Gate.asked c.args.gate.now c.advance.new.gate places)
     (ap (λ (x : Answer). asked_at (left_of k m first) (left_of k a r) (Ok tt) ++ asked_at (rest_of r) (rest_of r') x) c.in_ok-advance.was
     ∙ (asked_on_way z k first r r' m a b (Ok tt) i.way goes ∙ ap (λ (ws : List RegWrite). asked_at (left_of k m first) ws (Ok tt)) left))
-    (g.G.Gate.asked_on c.args.gate.now c.loop-halted.gate c.advance.new.gate (asked_at (left_of k m first) (left_of k a r) (Ok tt)) (asked_at (rest_of r) (rest_of r') c.advance.result) i.asked c.advance.ensures.asked) in
+    (g.G.Gate.asked_on c.args.gate.now c.loop-rolling.gate c.advance.new.gate (asked_at (left_of k m first) (left_of k a r) (Ok tt)) (asked_at (rest_of r) (rest_of r') c.advance.result) i.asked c.advance.ensures.asked) in
     let none : left_of k b' then ≡ [] = ap (λ (x : Mover). left_of k x then) stays ∙ c.if-not-take_next.ensures.none in record {
       fabric = ap (λ (s : MoverAt). s.fabric) c.take_next.ensures.mover ∙ (c.advance.ensures.fabric ∙ i.fabric);
       advances = way.advances;
@@ -111,24 +111,24 @@ returns-then-not-take_next g c =
       asked = asked;
     }
 
-pub loop-halted-preserved : goal.loop-halted-preserved
-loop-halted-preserved g c =
+pub loop-rolling-preserved : goal.loop-rolling-preserved
+loop-rolling-preserved g c =
     let z : Size = c.args.mover.now.fabric.size in let k : Colouring = c.args.matrix.now in
-    let i = c.loop-halted.invariant in let r = c.loop-halted.rolling in let first = c.args.rolling.now in
-    let m : Mover = c.args.mover.now.mover in let a : Mover = c.loop-halted.mover.mover in
+    let i = c.loop-rolling.invariant in let r = c.loop-rolling.rolling in let first = c.args.rolling.now in
+    let m : Mover = c.args.mover.now.mover in let a : Mover = c.loop-rolling.mover.mover in
     let r' : RollingAt = c.advance.new.rolling in let b : Mover = c.advance.new.mover.mover in
     let then : RollingAt = c.take_next.new.self in let b' : Mover = c.take_next.new.mover.mover in
     let sized = ap (λ (f : FabricId). f.size) i.fabric in
     let goes : GoesOn z r r' a b = subst (λ (f : FabricId). GoesOn f.size r r' a b) i.fabric c.advance.ensures.goes_on in
     let stays : b' ≡ b = ap (λ (s : MoverAt). s.mover) c.take_next.ensures.mover in
-    let way = way_next z c.loop-halted.mover.fabric k first r r' then m a b b' sized stays c.take_next.ensures.same i.way c.advance.ensures.goes_on in
+    let way = way_next z c.loop-rolling.mover.fabric k first r r' then m a b b' sized stays c.take_next.ensures.same i.way c.advance.ensures.goes_on in
     let same = c.advance.ensures.stopped.only (λ e. not_stopped (sym c.in_ok-advance.was ∙ e)) ∙ i.unstopped in
     let left : left_of k b r' ≡ left_of k b' then = sym c.take_next.ensures.same ∙ ap (λ (x : Mover). left_of k x then) (sym stays) in
     let asked : g.G.Gate.asked c.args.gate.now c.advance.new.gate (asked_at (left_of k m first) (left_of k b' then) (Ok tt))
     = subst (λ (places : List GatePlace). g.G.Gate.asked c.args.gate.now c.advance.new.gate places)
     (ap (λ (x : Answer). asked_at (left_of k m first) (left_of k a r) (Ok tt) ++ asked_at (rest_of r) (rest_of r') x) c.in_ok-advance.was
     ∙ (asked_on_way z k first r r' m a b (Ok tt) i.way goes ∙ ap (λ (ws : List RegWrite). asked_at (left_of k m first) ws (Ok tt)) left))
-    (g.G.Gate.asked_on c.args.gate.now c.loop-halted.gate c.advance.new.gate (asked_at (left_of k m first) (left_of k a r) (Ok tt)) (asked_at (rest_of r) (rest_of r') c.advance.result) i.asked c.advance.ensures.asked) in
+    (g.G.Gate.asked_on c.args.gate.now c.loop-rolling.gate c.advance.new.gate (asked_at (left_of k m first) (left_of k a r) (Ok tt)) (asked_at (rest_of r) (rest_of r') c.advance.result) i.asked c.advance.ensures.asked) in
     record {
       fabric = ap (λ (s : MoverAt). s.fabric) c.take_next.ensures.mover ∙ (c.advance.ensures.fabric ∙ i.fabric);
       way = way;

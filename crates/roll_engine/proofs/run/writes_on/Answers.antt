@@ -54,7 +54,7 @@ loop-next-preserved g c =
 pub returns : goal.returns
 returns g c =
     let l = c.loop-next in let r : RollingAt = at_step l.made c.args.rolling.now in
-    let none = next_found r c.work.result.now l.made c.next_at_step.result None c.work.ensures refl c.next_at_step.ensures.next c.in_default-next_at_step.is in record {
+    let none = next_found r c.work.result.now l.made c.next_at_step.result None c.work.ensures refl c.next_at_step.ensures.next c.in_default.is in record {
       own = l.invariant.own;
       walks = l.invariant.walks;
       all = λ _. left_none (writes_of r.work) r.step none;
