@@ -57,8 +57,10 @@ pub fn roll<D: Disk, G: Gate, R: Wait>(
     for _ in rt.forever() {
         match drive(p, fabric, rolling, gate) {
             Ok(()) => return gate.pass(GatePlace::Finish),
-            Err(Halt::InFrame(frame)) => rest.again(frame, rt),
-            Err(Halt::Stopped) => return Err(Stopped),
+            Err(halt) => match halt {
+                Halt::InFrame(frame) => rest.again(frame, rt),
+                Halt::Stopped => return Err(Stopped),
+            },
         }
     }
     unreachable!()

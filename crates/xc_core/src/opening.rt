@@ -99,7 +99,9 @@ fn join_all<D: Disk, G: Gate>(
     // Joins look at no frame.
     match advance {
         Ok(()) => Ok(()),
-        Err(Halt::Stopped) => Err(Stopped),
-        Err(Halt::InFrame(_)) => unreachable!(),
+        Err(halt) => match halt {
+            Halt::Stopped => Err(Stopped),
+            Halt::InFrame(_) => unreachable!(),
+        },
     }
 }
