@@ -1,7 +1,7 @@
 -- What a start has read of its journal.
 use Rattle.std.specs.Prelude.{◌≡◌, ℕ, false, List, length, None, Result, Ok, Err}
 use Rattle.dbchg_reports.specs.Recent.{no_changes}
-use Rattle.dxc_disk.specs.Disks.{DiskState, Looks}
+use Rattle.dxc_disk.specs.Disks.{DiskState, Looks, ReadsNoMore}
 use Rattle.dxc_num.specs.Dimensions.{Dimensions}
 use Rattle.fabric_words.specs.Seats.{MoverAt}
 use Rattle.journal_core.specs.declared.book.Book.{Book}
@@ -52,6 +52,7 @@ pub record IsStart {D : Type 0} (told : Type 0) (state : D → DiskState) (shelf
   pub still : journal.1.turning ≡ false
   pub same : x.p.journal.1 ≡ journal.1
   pub looks : told → Looks (state journal.0) (state x.p.journal.0)
+  pub no_more : told → ReadsNoMore (state journal.0) (state x.p.journal.0)
   pub kept : told → IsKept (state journal.0) journal.1 → IsKept (state x.p.journal.0) x.p.journal.1
   pub records : List (List ℕ)
   pub number : length records ≡ journal.1.count
