@@ -1,19 +1,15 @@
 -- What a file stands for that a journal's disk has read, by the operations in which it read.
-use Rattle.std.specs.Prelude.{◌≡◌, ◌⊎◌, ℕ, ◌+◌, ◌≤◌, Bool, List, length, take, slice_get, Option, Some, None}
-use Rattle.dxc_disk.specs.Disks.{DiskState, IsSettled, files}
+use Rattle.std.specs.Prelude.{◌≡◌, ◌⊎◌, ℕ, ◌+◌, ◌≤◌, List, length, take, slice_get, Option, Some, None}
+use Rattle.dxc_disk.specs.Disks.{DiskState, files}
 use Rattle.dxc_model.specs.declared.op.Op.{Op}
 use Rattle.dxc_model.specs.declared.op.Change.{Change}
-use Rattle.fabric_words.specs.Seats.{FabricId}
 use Rattle.roll_engine.specs.Rollings.{RollingAt}
-use Rattle.shelf_file.specs.Contents.{Contents}
 use Rattle.xc_core.specs.declared.provisioner.Provisioner.{Provisioner}
 use Rattle.xc_core.specs.Journals.{IsOldOrDoubted}
-use Rattle.xc_core.specs.Openings.{LeavesOpened, Opens}
 use Rattle.xc_core.specs.Operations.{HasRead, MayBe, Operation, Outset, made_in, readings_in}
 use Rattle.xc_core.specs.Provisioners.{IsHome, Rolls}
 use Rattle.xc_core.specs.Reckonings.{Past, ReckonsTo}
 use Rattle.xc_core.specs.Restarts.{IsHalted, Resumes}
-use Rattle.xc_core.specs.States.{Opening, outset_of}
 
 -- between two operations: home, halted, or with a work or the rest of one under way
 abbrev pub IsBetween : {D : Type 0} → Type 0 → (D → DiskState) → Past → Provisioner D → Type 0
@@ -42,13 +38,3 @@ abbrev pub ReadingsStand : {D : Type 0} → Type 0 → (D → DiskState) → Typ
 ReadingsStand {D} told state = told → (from : Outset) (made : List Change) (b : Past) (p : Provisioner D) → IsBetween told state b p
     → (x : HasRead from made b (state p.journal.0)) (by place : ℕ) (file : List ℕ) → slice_get (files (state p.journal.0).readings) place ≡ Some file → by ≤ place + 1 → length from.readings ≤ place + 1
     → StandsForFirst from x.operations p.doubt by file
-
--- what there was at an opening, and what the disk had read that it was given
-abbrev pub handed_at : Opening → DiskState → Outset
-handed_at o s = record { past = o.first; readings = files s.readings }
-
--- A start on a settled disk is an operation, the first.
-abbrev pub StartsAreOperations : {D : Type 0} → Type 0 → (D → DiskState) → Type 0
-StartsAreOperations {D} told state = told → (d e : D) (shelf : Contents) (fabric : FabricId) (due : Bool) (number : ℕ) (o : Opening) → IsSettled (state d)
-    → Opens told (state d).reads_as shelf fabric due number o → LeavesOpened shelf (state d) (state e) → o.readings ≡ files (state e).readings
-    → (made : List Change) (now : Past) (s : DiskState) → HasRead (outset_of o) made now s → HasRead (handed_at o (state d)) made now s

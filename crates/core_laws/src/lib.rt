@@ -2,7 +2,7 @@
 #![tactic(auto)]
 
 ghost use Rattle.core_laws.specs.Laws.{ChangesAreCounted, ChangesComeToOne, LimitsAreOne, MiddlesMoveFew, MovesAreFew, OpeningsAreOne, StandbysAreAdopted, StoppedAreAdopted, SyncedAreMirrored};
-ghost use Rattle.core_laws.specs.Mirrorings.{ReadingsStand, StartsAreOperations};
+ghost use Rattle.core_laws.specs.Mirrorings.{ReadingsStand};
 
 use dxc_disk::Disk;
 
@@ -45,9 +45,7 @@ pub fn standbys_are_adopted<D: Disk>()
 /// after the mirror was lost: all operations are among the first that ended by the last sync which the primary answered while Joined (`standby_link::laws`
 /// says which readings those may be).
 ///
-/// What a run's operations are, the state says wherever its Provisioner is home (`read` of `IsHomeAfter`). A start is the first of them, from the disk on
-/// that was handed to it (`start`).
+/// What a run's operations are, the state says wherever its Provisioner is home (`read` of `IsHomeAfter`), from the start on.
 pub fn readings_stand_for_operations<D: Disk>()
-    ensures start { StartsAreOperations D.told D.state }
-    ensures stands { ReadingsStand D.told D.state }
+    ensures { ReadingsStand D.told D.state }
 {}

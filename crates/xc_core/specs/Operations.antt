@@ -1,7 +1,7 @@
 -- What a run of the controller does to its journal, operation by operation, as the journal's disk tells by what it read in each.
 use Rattle.std.specs.Prelude.{◌≡◌, ◌⊎◌, ℕ, List, [], ◌∷◌, ◌++◌, Option}
 use Rattle.std.specs.List.{AllByRecursion}
-use Rattle.dxc_disk.specs.Disks.{DiskState, files}
+use Rattle.dxc_disk.specs.Disks.{DiskState, files, last_read}
 use Rattle.dxc_model.specs.declared.op.Op.{Op}
 use Rattle.dxc_model.specs.declared.op.Change.{Change}
 use Rattle.journal_core.specs.Headers.{header}
@@ -34,11 +34,6 @@ pub record Operation : Type 0 where
   pub readings : List (List ℕ)
   pub made : List Change
 
--- what was read last of these, or, where there are none, this file
-abbrev pub last_read : List ℕ → List (List ℕ) → List ℕ
-last_read file [] = file
-last_read file (f ∷ fs) = last_read f fs
-
 abbrev pub readings_in : List Operation → List (List ℕ)
 readings_in [] = []
 readings_in (x ∷ xs) = x.readings ++ readings_in xs
@@ -57,9 +52,15 @@ pub record Outset : Type 0 where
   pub past : Past
   pub readings : List (List ℕ)
 
--- What the disk has read since then, it read in operations, which made these changes.
+-- the first is a start
+abbrev pub BeginWithStart : List Operation → Type 0
+BeginWithStart [] = ⊥
+BeginWithStart (x ∷ xs) = (shelf : Contents) × (x.task ≡ start shelf)
+
+-- What the disk has read since then, it read in operations, of which the first is the start, and which made these changes.
 pub record HasRead (from : Outset) (made : List Change) (now : Past) (s : DiskState) : Type 0 where
   pub operations : List Operation
+  pub begin : BeginWithStart operations
   pub are : AreOperations from.past (last_read [] from.readings) operations now
   pub made_is : made_in operations ≡ made
   pub readings : files s.readings ≡ from.readings ++ readings_in operations

@@ -87,7 +87,7 @@ module _ {D : Type 0} (told : Type 0) (state : D → DiskState) where
     pub ground : ground_of p ≡ o.site
     pub faults : min (o.faults + faults_in h) last ≤ (state p.journal.0).faults
     pub spends : SpendsOf o (room_in h + most_room) (state p.journal.0)
-    -- what its disk has read since the opening: the operation in hand, which has made no change yet, is the last
+    -- so it is with what its disk has read: the operation in hand is the last, and has made no change yet
     pub read : told → HasRead (outset_of o) (changes_of h) now (state p.journal.0)
 
   -- for a change, whose work is planned, in the journal, and under way
