@@ -11,7 +11,7 @@ use Rattle.standby_link.specs.Acts.{write as put, acted, pieces}
 use Rattle.standby_link.specs.Calls.{HasMoment, HasSynced}
 use Rattle.standby_link.specs.Laws.{IsWhole, named}
 use Rattle.standby_link.specs.Lines.{line_at}
-use Rattle.standby_link.specs.Mirrored.{CallsKeepMirrors, CopiesAreReadings, IsInStep, IsReadFrom, JoinedCopiesAreCurrent, Mirrors, ReadsAlong, number_by}
+use Rattle.standby_link.specs.Mirrored.{CallsKeepMirrors, CopiesAreReadings, CurrentCopiesAreWhole, IsInStep, IsReadFrom, JoinedAreCurrent, Mirrors, ReadsAlong, number_by}
 use Rattle.standby_link.specs.Mirrors.{Pair, Primary, called, failed, is_awaited, joining, moments, syncing, takes}
 use Rattle.standby_link.specs.Moves.{IsMoved, IsOn, IsSmall, StepsBySync, StepsByWrite, TookHaves, first_line, lost_by, mirrored, takes_all}
 use Rattle.standby_link.proofs.ActSteps.{get_front, get_last, get_more, get_within}
@@ -251,8 +251,8 @@ module _ {D K : Type 0} (told link_told : Type 0) (state : D → DiskState) (lin
       }
 
 if_then : {A : Type 0} (o : Option A) (P Q : A → Type 0) → ((x : A) → P x → Q x) → IfSome o P → IfSome o Q
-if_then None P Q then had = tt
-if_then (Some x) P Q then had = then x had
+if_then None P Q follows had = tt
+if_then (Some x) P Q follows had = follows x had
 
 -- By its name a copy of a disk.
 pub copies_read : {D : Type 0} (state : D → DiskState) → CopiesAreReadings state
@@ -260,11 +260,16 @@ copies_read state d number pair keeps along = if_then (named pair.standby) (IsWh
     (λ file whole. along.moments_are whole.1.moment file whole.1.not_before (whole.1.read ∙ ap (λ (f : List ℕ). Some f) (sym whole.0)))
     (whole_named pair keeps)
 
--- its only moment since then is the last
-current : (s : DiskState) (p : Primary) (number : ℕ) (moment : ℕ) (file : List ℕ) → ReadsAlong s p number → IsInStep s p number → IsSynced s → s.reads_as ≡ p.file → p.answered ≤ moment → slice_get (moments p) moment ≡ Some file → file ≡ s.reads_as
-current s p number moment file along step synced same le at = last_one p.before p.file file moment at (omega (arith, step.since, step.synced, along.there, synced, le)) ∙ sym same
+pub joined_current : {D : Type 0} (told : Type 0) (state : D → DiskState) → JoinedAreCurrent told state
+joined_current told state t d line p number mirrors none synced =
+    let along = mirrors.along t in
+    let step = mirrors.in_step t none in
+    record { answered = omega (arith, step.since, step.synced, along.there, synced); file = sym (mirrors.moved.content t) }
 
-pub joined_current : {D K : Type 0} (told : Type 0) (state : D → DiskState) (link : K → LinkState) → JoinedCopiesAreCurrent told state link
-joined_current told state link t d l number pair keeps mirrors none synced = if_then (named pair.standby) (IsWhole pair) (λ (file : List ℕ). file ≡ (state d).reads_as)
-    (λ file whole. current (state d) pair.primary number whole.1.moment file (mirrors.along t) (mirrors.in_step t none) synced (mirrors.moved.content t) whole.1.not_before (whole.1.read ∙ ap (λ (f : List ℕ). Some f) (sym whole.0)))
+pub current_whole : {D : Type 0} (state : D → DiskState) → CurrentCopiesAreWhole state
+current_whole state d pair keeps current = if_then (named pair.standby) (IsWhole pair) (λ (file : List ℕ). file ≡ (state d).reads_as)
+    (λ file whole.
+    let p = pair.primary in
+    let read : slice_get (p.before ++ p.file ∷ []) whole.1.moment ≡ Some file = whole.1.read ∙ ap (λ (f : List ℕ). Some f) (sym whole.0) in
+    last_one p.before p.file file whole.1.moment read (omega (arith, current.answered, whole.1.not_before)) ∙ current.file)
     (whole_named pair keeps)

@@ -7,7 +7,7 @@ use Rattle.dxc_outside.specs.declared.link.Lost.{Lost}
 use Rattle.standby_link.specs.declared.line.Line.{Line}
 use Rattle.standby_link.specs.Acts.{write as put, acted, pieces}
 use Rattle.standby_link.specs.Laws.{KeepsUp, named}
-use Rattle.standby_link.specs.Lines.{line_at}
+use Rattle.standby_link.specs.Lines.{LineState, line_at}
 use Rattle.standby_link.specs.Mirrors.{Pair, Primary, called, failed, joining, moments, syncing}
 use Rattle.standby_link.specs.Moves.{IsMoved, IsSmall, MirrorState, StepsBySync, StepsByWrite, TookHaves, first_line, lost_by, mirrored, takes_all}
 
@@ -70,8 +70,17 @@ abbrev pub CopiesAreReadings : {D : Type 0} → (D → DiskState) → Type 0
 CopiesAreReadings {D} state = (d : D) (number : ℕ) (pair : Pair) → (0 < pair.standby.synced → KeepsUp pair) → ReadsAlong (state d) pair.primary number
     → IfSome (named pair.standby) (IsReadFrom number (state d).readings)
 
--- Where the mirror is Joined, and the last that the disk did to its bytes is a sync, that file is what the disk reads.
-abbrev pub JoinedCopiesAreCurrent : {D K : Type 0} → Type 0 → (D → DiskState) → (K → LinkState) → Type 0
-JoinedCopiesAreCurrent {D} {K} told state link = told → (d : D) (l : Line K) (number : ℕ) (pair : Pair) → (0 < pair.standby.synced → KeepsUp pair)
-    → Mirrors told (mirrored (state d) (line_at link l)) pair.primary number → l.lost ≡ None → IsSynced (state d)
+-- No call came after the last sync that the primary answered while Joined, and the disk reads what it does.
+pub record IsCurrent (disk : DiskState) (p : Primary) : Type 0 where
+  pub answered : p.answered ≡ length p.before
+  pub file : p.file ≡ disk.reads_as
+
+-- So it is where the mirror is Joined, and the last that the disk did to its bytes is a sync.
+abbrev pub JoinedAreCurrent : {D : Type 0} → Type 0 → (D → DiskState) → Type 0
+JoinedAreCurrent {D} told state = told → (d : D) (line : LineState) (p : Primary) (number : ℕ) → Mirrors told (mirrored (state d) line) p number → line.lost ≡ None → IsSynced (state d)
+    → IsCurrent (state d) p
+
+-- By its name a standby's copy is then no file, or what the disk reads.
+abbrev pub CurrentCopiesAreWhole : {D : Type 0} → (D → DiskState) → Type 0
+CurrentCopiesAreWhole {D} state = (d : D) (pair : Pair) → (0 < pair.standby.synced → KeepsUp pair) → IsCurrent (state d) pair.primary
     → IfSome (named pair.standby) (λ file. file ≡ (state d).reads_as)
