@@ -2,8 +2,9 @@
 use Rattle.std.specs.Prelude.{IfSome, MatchResult, ◌^◌, ◌<◌}
 use Rattle.std.proofs.Common.{◌≡◌, ◌⊎◌, inl, inr, ⊎_elim, ℕ, zero, suc, ◌+◌, ◌≤◌, max, Bool, true, false, List, [], ◌∷◌, ◌++◌, length, Option, Some, None, IsSome, Result, Ok, Err, slice_get, if◌then◌else◌, nat_eq, refl, sym, ◌∙◌, ap, subst, arith, length-append}
 use Rattle.std.proofs.lemmas.Bool.{cases_lt}
+use Rattle.std.proofs.lemmas.List.{length-map, map-append}
 use Rattle.dxc_disk.specs.declared.disk.DiskFault.{DiskFault}
-use Rattle.dxc_disk.specs.Disks.{DiskState, GoesOn, IsDisk, IsLength, IsRead, IsSync, IsSynced, IsWrite, Reading, ReadsLast, ReadsNoMore, ReadsOnce, bytes_at, reading_at}
+use Rattle.dxc_disk.specs.Disks.{DiskState, GoesOn, IsDisk, IsLength, IsRead, IsSync, IsSynced, IsWrite, Reading, ReadsLast, ReadsNoMore, ReadsOnce, bytes_at, files, reading_at}
 use Rattle.dxc_outside.specs.Links.{LinkState}
 use Rattle.dxc_outside.specs.declared.link.Lost.{Lost}
 use Rattle.standby_link.specs.declared.line.Line.{Line}
@@ -28,19 +29,18 @@ last_one (z ∷ xs) x y (suc k) is le = last_one xs x y k is (omega (arith, le))
 -- what a disk reads is its last reading
 read_last : (s : DiskState) → ReadsLast s → (number : ℕ) → number ≤ length s.readings → IsReadFrom number s.readings s.reads_as
 read_last s last number within =
-    let one = reading_at last.at s.reads_as in
-    let many : length s.readings ≡ length last.before + 1 = ap length last.readings ∙ length-append last.before (one ∷ []) in
+    let are : files s.readings ≡ files last.before ++ s.reads_as ∷ [] = ap files last.readings ∙ map-append (λ (r : Reading). r.file) last.before (reading_at last.at s.reads_as ∷ []) in
+    let many : length (files s.readings) ≡ length (files last.before) + 1 = ap length are ∙ length-append (files last.before) (s.reads_as ∷ []) in
     record {
-      place = length last.before;
-      late = omega (arith, within, many);
-      reading = one;
-      there = ap (λ (rs : List Reading). slice_get rs (length last.before)) last.readings ∙ get_last last.before one;
-      is = refl;
+      place = length (files last.before);
+      late = omega (arith, within, many, length-map s.readings (λ (r : Reading). r.file));
+      is = ap (λ (fs : List (List ℕ)). slice_get fs (length (files last.before))) are ∙ get_last (files last.before) s.reads_as;
     }
 
 read_on : (old new : DiskState) → GoesOn old new → (number : ℕ) (file : List ℕ) → IsReadFrom number old.readings file → IsReadFrom number new.readings file
-read_on old new on number file r = subst (λ (rs : List Reading). IsReadFrom number rs file) (sym on.readings)
-    (record { place = r.place; late = r.late; reading = r.reading; there = get_more old.readings on.more r.place r.reading r.there; is = r.is })
+read_on old new on number file r =
+    let are : files new.readings ≡ files old.readings ++ files on.more = ap files on.readings ∙ map-append (λ (x : Reading). x.file) old.readings on.more in
+    record { place = r.place; late = r.late; is = ap (λ (fs : List (List ℕ)). slice_get fs r.place) are ∙ get_more (files old.readings) (files on.more) r.place file r.is }
 
 there_on : (old new : DiskState) → GoesOn old new → length old.readings ≤ length new.readings
 there_on old new on = let many : length new.readings ≡ length old.readings + length on.more = ap length on.readings ∙ length-append old.readings on.more in omega (arith, many)

@@ -1,7 +1,7 @@
 -- What a primary's moments are of its disk's readings, and so what a standby's file is of them.
 use Rattle.std.specs.Prelude.{◌≡◌, ℕ, ◌+◌, ◌^◌, ◌≤◌, ◌<◌, List, length, Option, Some, None, IfSome, slice_get, Result, MatchResult}
 use Rattle.dxc_disk.specs.declared.disk.DiskFault.{DiskFault}
-use Rattle.dxc_disk.specs.Disks.{DiskState, GoesOn, IsLength, IsRead, IsSync, IsSynced, IsWrite, Reading, bytes_at}
+use Rattle.dxc_disk.specs.Disks.{DiskState, GoesOn, IsLength, IsRead, IsSync, IsSynced, IsWrite, Reading, bytes_at, files}
 use Rattle.dxc_outside.specs.Links.{LinkState}
 use Rattle.dxc_outside.specs.declared.link.Lost.{Lost}
 use Rattle.standby_link.specs.declared.line.Line.{Line}
@@ -15,9 +15,7 @@ use Rattle.standby_link.specs.Moves.{IsMoved, IsSmall, MirrorState, StepsBySync,
 pub record IsReadFrom (number : ℕ) (readings : List Reading) (file : List ℕ) : Type 0 where
   pub place : ℕ
   pub late : number ≤ place + 1
-  pub reading : Reading
-  pub there : slice_get readings place ≡ Some reading
-  pub is : reading.file ≡ file
+  pub is : slice_get (files readings) place ≡ Some file
 
 -- What the primary read from the last sync on that it answered while Joined, or from the joining on, its disk read in the reading of this number and in later ones.
 pub record ReadsAlong (disk : DiskState) (p : Primary) (number : ℕ) : Type 0 where
