@@ -1,6 +1,6 @@
 -- What an opening of the users finds on its disk, and where a change asks the gate.
 use Rattle.std.specs.Prelude.{◌≡◌, ◌⊎◌, ℕ, List, [], ◌∷◌, length, Result, Ok, Err}
-use Rattle.dxc_disk.specs.Disks.{DiskState, IsSettled, LeavesOnly, files}
+use Rattle.dxc_disk.specs.Disks.{DiskState, IsSettled, LeavesOnly}
 use Rattle.dxc_model.specs.declared.cause.Cause.{Cause}
 use Rattle.dxc_model.specs.declared.cause.Cause.TheVariants.{DiskFault}
 use Rattle.dxc_outside.specs.declared.gate.GatePlace.{GatePlace}
@@ -85,7 +85,6 @@ pub record Begins {D : Type 0} (told : Type 0) (state : D → DiskState) (s : Us
   pub faults : (opening_of state s).faults ≡ (state s.journal.0).faults
   pub margin : (opening_of state s).margin ≡ (state s.journal.0).margin
   pub room : (opening_of state s).room ≡ (state s.journal.0).room
-  pub readings : (opening_of state s).readings ≡ files (state s.journal.0).readings
   pub settled : told → IsSettled (state s.journal.0)
 
 -- A crash at any moment of an opening leaves what the disk might have left before, or a file that stands for the same list; where a

@@ -1,7 +1,7 @@
 -- What the operations of a history were to the users' journal, as its disk tells by what it read in each.
-use Rattle.std.specs.Prelude.{◌≡◌, ◌⊎◌, ℕ, ◌-◌, List, [], ◌∷◌, ◌++◌, drop}
+use Rattle.std.specs.Prelude.{◌≡◌, ◌⊎◌, ℕ, List, [], ◌∷◌, ◌++◌}
 use Rattle.std.specs.List.{AllByRecursion}
-use Rattle.dxc_disk.specs.Disks.{DiskState, IsSynced, files}
+use Rattle.dxc_disk.specs.Disks.{DiskState, IsSynced, files, last_read}
 use Rattle.journal_core.specs.Headers.{header}
 use Rattle.journal_core.specs.Makes.{IsFresh}
 use Rattle.journal_core.specs.Opens.{made_head}
@@ -42,11 +42,6 @@ pub record Operation : Type 0 where
   pub entry : UserEntry
   pub readings : List (List ℕ)
 
--- what was read last of these, or, where there are none, this file
-abbrev pub last_read : List ℕ → List (List ℕ) → List ℕ
-last_read file [] = file
-last_read file (f ∷ fs) = last_read f fs
-
 abbrev pub readings_in : List Operation → List (List ℕ)
 readings_in [] = []
 readings_in (p ∷ ps) = p.readings ++ readings_in ps
@@ -60,12 +55,13 @@ abbrev pub AreOperations : Opening → List UserEntry → List ℕ → List Oper
 AreOperations o h file [] = Unit {0}
 AreOperations o h file (p ∷ ps) = AllByRecursion (MayBe o h p.entry.op) (file ∷ p.readings) × AreOperations o (h ++ p.entry ∷ []) (last_read file p.readings) ps
 
--- What the disk has read since the opening, it read in the operations of the history. The last that it did is a sync, unless a change is in doubt.
+-- What the disk has read since it was handed out, it read in the start, and then in the operations of the history. The last that it did is a sync, unless a
+-- change is in doubt.
 pub record HasRead (o : Opening) (h : List UserEntry) (s : DiskState) : Type 0 where
+  pub started : List (List ℕ)
   pub operations : List Operation
-  pub are : AreOperations o [] (last_read [] o.readings) operations
+  pub start : AllByRecursion (MayBeAtStart o) (last_read [] o.readings ∷ started)
+  pub are : AreOperations o [] (last_read (last_read [] o.readings) started) operations
   pub entered : entries_in operations ≡ h
-  pub readings : files s.readings ≡ o.readings ++ readings_in operations
-  -- so it did in the start, from what it read when it was handed out on
-  pub started : AllByRecursion (MayBeAtStart o) (drop (o.handed - 1) o.readings)
+  pub readings : files s.readings ≡ o.readings ++ (started ++ readings_in operations)
   pub synced : IsSynced s ⊎ ((c : UserChange) × IsInDoubt o h c)

@@ -3,7 +3,7 @@ ghost use Rattle.std.specs.Prelude.{◌≡◌, ◌≢◌, ◌≤◌, ◌<◌, �
 ghost use Rattle.std.specs.FinMap.{entries};
 ghost use Rattle.dxc_causes.specs.Causes.{HasCause};
 ghost use Rattle.dxc_causes.specs.Stops.{RoseOnlyFor};
-ghost use Rattle.dxc_disk.specs.Disks.{IsSound, LeavesOnly, Spends};
+ghost use Rattle.dxc_disk.specs.Disks.{IsSound, LeavesOnly, Spends, files};
 ghost use Rattle.journal_core.specs.Books.{IsReady};
 ghost use Rattle.user_admin.specs.declared.op.UserEntry.{UserEntry as Entry};
 ghost use Rattle.user_admin.specs.Histories.{Opening};
@@ -121,7 +121,7 @@ impl<D: Disk + Drop> UserState<D> {
         ensures ok { IfOk result (λ s. IsOpening D.told (D.state disk).reads_as shelf.now
             (opening_of D.state s) × Begins D.told D.state s) }
         ensures handed { IfOk result
-            (λ s. (opening_of D.state s).handed ≡ length (D.state disk).readings) }
+            (λ s. (opening_of D.state s).readings ≡ files (D.state disk).readings) }
         ensures fails { D.told → IfErr result (Fails D.state (D.state disk) shelf.now) }
         // Of whatever disk is left, where memory was wanting too.
         ensures any_moment { D.told

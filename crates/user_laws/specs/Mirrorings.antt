@@ -7,7 +7,7 @@ use Rattle.standby_link.specs.Mirrors.{Pair}
 use Rattle.user_admin.specs.declared.op.UserEntry.{UserEntry}
 use Rattle.user_admin.specs.declared.state.UserState.{UserState}
 use Rattle.user_admin.specs.Histories.{Opening}
-use Rattle.user_admin.specs.Operations.{IsFileAfter, MayBe, MayBeAtStart, Operation, entries_in, readings_in}
+use Rattle.user_admin.specs.Operations.{HasRead, IsFileAfter, MayBe, MayBeAtStart, Operation, entries_in, readings_in}
 use Rattle.user_admin.specs.States.{StandsFor}
 
 -- a file stands for the users before this operation, or with its change; or after all operations, with the change in doubt or not
@@ -16,28 +16,33 @@ StandsAt o h None = IsFileAfter o h
 StandsAt o h (Some p) = MayBe o h p.entry.op
 
 -- A file stands for the users after the first operations, and maybe with one change more. Among these are all that ended by the time when the disk had so many
--- readings.
-pub record StandsForFirst (o : Opening) (ps : List Operation) (by : ℕ) (file : List ℕ) : Type 0 where
+-- readings, of which so many were from before the first of them.
+pub record StandsForFirst (o : Opening) (ps : List Operation) (before by : ℕ) (file : List ℕ) : Type 0 where
   pub number : ℕ
-  pub holds : (n : ℕ) → n ≤ length ps → length o.readings + length (readings_in (take n ps)) ≤ by → n ≤ number
+  pub holds : (n : ℕ) → n ≤ length ps → before + length (readings_in (take n ps)) ≤ by → n ≤ number
   pub stands : StandsAt o (entries_in (take number ps)) (slice_get ps number) file
 
 -- It was read in the start, before any operation: the users at the opening, or a file in which no journal was made yet. No operation had ended by that time.
-pub record StandsForNone (o : Opening) (by : ℕ) (file : List ℕ) : Type 0 where
-  pub before : by < length o.readings
+pub record StandsForNone (o : Opening) (before by : ℕ) (file : List ℕ) : Type 0 where
+  pub earlier : by < before
   pub stands : MayBeAtStart o file
 
-abbrev pub StandsForOperations : Opening → List Operation → ℕ → List ℕ → Type 0
-StandsForOperations o ps by file = StandsForNone o by file ⊎ StandsForFirst o ps by file
+module _ {o : Opening} {h : List UserEntry} {s : DiskState} (x : HasRead o h s) where
+  -- how many readings were from before the first operation
+  abbrev pub readings_before : ℕ
+  readings_before = length o.readings + length x.started
+
+  abbrev pub StandsForOperations : ℕ → List ℕ → Type 0
+  StandsForOperations by file = StandsForNone o readings_before by file ⊎ StandsForFirst o x.operations readings_before by file
 
 -- Where the users' keeper is home, each file that its disk read since it was handed out stands for the first operations of the history, with all that ended by that
 -- reading or by any earlier one.
 abbrev pub ReadingsStand : {D : Type 0} → Type 0 → (D → DiskState) → Type 0
-ReadingsStand {D} told state = (t : told) (o : Opening) (h : List UserEntry) (s : UserState D) (st : StandsFor told state o s h) (by : ℕ) (file : List ℕ) → o.handed ≤ by → IsReadFrom by (state s.journal.0).readings file
-    → StandsForOperations o (st.read t).operations by file
+ReadingsStand {D} told state = (t : told) (o : Opening) (h : List UserEntry) (s : UserState D) (st : StandsFor told state o s h) (by : ℕ) (file : List ℕ) → length o.readings ≤ by → IsReadFrom by (state s.journal.0).readings file
+    → StandsForOperations (st.read t) by file
 
 -- So by its name a standby's copy is no file, or one that stands for such operations, among which are all that ended by the last sync that was answered while Joined:
 -- whatever messages came, again, never or in any order, and however long the mirror has been lost.
 abbrev pub CopiesStand : {D : Type 0} → Type 0 → (D → DiskState) → Type 0
-CopiesStand {D} told state = (t : told) (o : Opening) (h : List UserEntry) (s : UserState D) (st : StandsFor told state o s h) (pair : Pair) (by : ℕ) → o.handed ≤ by → (0 < pair.standby.synced → KeepsUp pair)
-    → ReadsAlong (state s.journal.0) pair.primary by → IfSome (named pair.standby) (StandsForOperations o (st.read t).operations by)
+CopiesStand {D} told state = (t : told) (o : Opening) (h : List UserEntry) (s : UserState D) (st : StandsFor told state o s h) (pair : Pair) (by : ℕ) → length o.readings ≤ by → (0 < pair.standby.synced → KeepsUp pair)
+    → ReadsAlong (state s.journal.0) pair.primary by → IfSome (named pair.standby) (StandsForOperations (st.read t) by)
