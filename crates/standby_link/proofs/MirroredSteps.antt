@@ -3,6 +3,7 @@ use Rattle.std.specs.Prelude.{IfSome, MatchResult, ◌^◌, ◌<◌}
 use Rattle.std.proofs.Common.{◌≡◌, ◌⊎◌, inl, inr, ⊎_elim, ℕ, zero, suc, ◌+◌, ◌≤◌, max, Bool, true, false, List, [], ◌∷◌, ◌++◌, length, Option, Some, None, IsSome, Result, Ok, Err, slice_get, if◌then◌else◌, nat_eq, refl, sym, ◌∙◌, ap, subst, arith, length-append}
 use Rattle.std.proofs.lemmas.Bool.{cases_lt}
 use Rattle.std.proofs.lemmas.List.{length-map, map-append}
+use Rattle.std.proofs.lemmas.Option.{IfSome_then}
 use Rattle.dxc_disk.specs.declared.disk.DiskFault.{DiskFault}
 use Rattle.dxc_disk.specs.Disks.{DiskState, GoesOn, IsDisk, IsLength, IsRead, IsSync, IsSynced, IsWrite, Reading, ReadsLast, ReadsNoMore, ReadsOnce, bytes_at, files, reading_at}
 use Rattle.dxc_outside.specs.Links.{LinkState}
@@ -250,15 +251,10 @@ module _ {D K : Type 0} (told link_told : Type 0) (state : D → DiskState) (lin
         stays = λ t d e p number along on. stays_along (state d) (state e) p number along on;
       }
 
-if_then : {A : Type 0} (o : Option A) (P Q : A → Type 0) → ((x : A) → P x → Q x) → IfSome o P → IfSome o Q
-if_then None P Q follows had = tt
-if_then (Some x) P Q follows had = follows x had
-
 -- By its name a copy of a disk.
 pub copies_read : {D : Type 0} (state : D → DiskState) → CopiesAreReadings state
-copies_read state d number pair keeps along = if_then (named pair.standby) (IsWhole pair) (IsReadFrom number (state d).readings)
+copies_read state d number pair keeps along = IfSome_then (named pair.standby) {P = IsWhole pair} {Q = IsReadFrom number (state d).readings} (whole_named pair keeps)
     (λ file whole. along.moments_are whole.1.moment file whole.1.not_before (whole.1.read ∙ ap (λ (f : List ℕ). Some f) (sym whole.0)))
-    (whole_named pair keeps)
 
 pub joined_current : {D : Type 0} (told : Type 0) (state : D → DiskState) → JoinedAreCurrent told state
 joined_current told state t d line p number mirrors none synced =
@@ -267,9 +263,8 @@ joined_current told state t d line p number mirrors none synced =
     record { answered = omega (arith, step.since, step.synced, along.there, synced); file = sym (mirrors.moved.content t) }
 
 pub current_whole : {D : Type 0} (state : D → DiskState) → CurrentCopiesAreWhole state
-current_whole state d pair keeps current = if_then (named pair.standby) (IsWhole pair) (λ (file : List ℕ). file ≡ (state d).reads_as)
+current_whole state d pair keeps current = IfSome_then (named pair.standby) {P = IsWhole pair} {Q = λ (file : List ℕ). file ≡ (state d).reads_as} (whole_named pair keeps)
     (λ file whole.
     let p = pair.primary in
     let read : slice_get (p.before ++ p.file ∷ []) whole.1.moment ≡ Some file = whole.1.read ∙ ap (λ (f : List ℕ). Some f) (sym whole.0) in
     last_one p.before p.file file whole.1.moment read (omega (arith, current.answered, whole.1.not_before)) ∙ current.file)
-    (whole_named pair keeps)
