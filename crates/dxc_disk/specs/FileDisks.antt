@@ -1,5 +1,5 @@
 -- A disk over a file, for the contracts of its own calls.
-use Rattle.std.specs.Prelude.{Bool, [], Result, IsErr, IsTrue}
+use Rattle.std.specs.Prelude.{[], Result, IsErr, IsTrue}
 use Rattle.dxc_disk.specs.Disks.{DiskState}
 use Rattle.dxc_disk.specs.declared.file_disk.FileDisk.{FileDisk}
 
