@@ -1,11 +1,10 @@
 -- What a file stands for that the users' journal's disk has read.
 use Rattle.std.proofs.Common.{◌≡◌, inl, inr, ⊎_elim, ℕ, zero, suc, ◌+◌, ◌-◌, ◌≤◌, ◌<◌, List, [], ◌∷◌, ◌++◌, length, take, Some, None, slice_get, sym, ◌∙◌, ap, subst, arith, length-append, append_assoc}
 use Rattle.std.specs.List.{AllByRecursion}
-use Rattle.std.specs.Prelude.{option_map}
 use Rattle.std.proofs.lemmas.Bool.{cases_lt}
 use Rattle.std.proofs.lemmas.List.{append-nil}
-use Rattle.std.proofs.lemmas.Option.{IfSome_then, slice_get-map}
-use Rattle.dxc_disk.specs.Disks.{DiskState, IsDisk, Reading, files, last_read}
+use Rattle.std.proofs.lemmas.Option.{IfSome_then}
+use Rattle.dxc_disk.specs.Disks.{DiskState, IsDisk, last_read}
 use Rattle.dxc_disk.proofs.ReadingSteps.{last_on}
 use Rattle.standby_link.specs.Mirrored.{CopiesAreReadings, IsReadFrom}
 use Rattle.standby_link.proofs.ActSteps.{get_front}
@@ -101,9 +100,6 @@ module _ {D : Type 0} (told : Type 0) (state : D → DiskState) (disks : (d : D)
   ends = subst (λ (w : List UserEntry × List ℕ). IsFileAfter o w.0 w.1) (λ i. (sym has.entered i, sym (read_so_far o h disk (disks s.journal.0 t) has) i)) (⊎_elim (λ old. inl old) (λ more. inr more.0) (st.reads t))
 
   module _ (by : ℕ) (file : List ℕ) (handed : length o.readings ≤ by) (read : IsReadFrom by disk.readings file) where
-    there : slice_get (files disk.readings) read.place ≡ Some file
-    there = slice_get-map (λ (r : Reading). r.file) disk.readings read.place ∙ (ap (option_map (λ (r : Reading). r.file)) read.there ∙ ap Some read.is)
-
     -- its place from the last of what was read before the start on
     abbrev place : ℕ
     place = read.place + 1 - length o.readings
@@ -114,7 +110,7 @@ module _ {D : Type 0} (told : Type 0) (state : D → DiskState) (disks : (d : D)
         let one : length o.readings + place ≡ suc read.place = omega (arith, late, handed) in
         sym (behind [] o.readings (has.started ++ readings_in has.operations) place)
         ∙ (ap (slice_get ([] ∷ (o.readings ++ (has.started ++ readings_in has.operations)))) one
-        ∙ (ap (λ (fs : List (List ℕ)). slice_get fs read.place) (sym has.readings) ∙ there))
+        ∙ (ap (λ (fs : List (List ℕ)). slice_get fs read.place) (sym has.readings) ∙ read.is))
 
     pub stands : StandsForOperations has by file
     stands =
