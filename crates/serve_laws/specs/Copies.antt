@@ -30,8 +30,8 @@ pub record StandsForChanges {D : Type 0} (told : Type 0) (state : D → DiskStat
   -- All that the journal's disk has read since it was handed out it read in operations, which made these changes; where nothing is uncertain it synced last.
   pub read : told → HasRead (outset_of o) (changes_of h) past (state p.journal.0)
   pub synced : told → (IsUncertain h → ⊥) → IsSynced (state p.journal.0)
-  -- Whoever stood by, over whichever link, and however long it has been lost: by its name the standby's copy is no file, or one that stands for the changes of the first of
-  -- these operations, and maybe for one more. All operations that ended by the last sync that was answered while Joined are among the first.
+  -- Whoever stood by, and whenever either end stopped or was lost, in the middle of an operation too: by its name the standby's copy is no file, or one that stands for
+  -- the changes of the first of these operations, and maybe for one more. All operations that ended by the last sync that was answered while Joined are among the first.
   pub standby : (t : told) → (pair : Pair) (by : ℕ) → length o.readings ≤ by → (0 < pair.standby.synced → KeepsUp pair) → ReadsAlong (state p.journal.0) pair.primary by
       → IfSome (named pair.standby) (StandsForFirst (outset_of o) (read t).operations p.doubt by)
   -- Where nothing is uncertain, and the mirror is Joined, the standby is current.

@@ -21,9 +21,8 @@ pub record IsKeeperHome {D : Type 0} (told : Type 0) (state : D → DiskState) (
   pub users : Box (UserState D) Global
   pub is : keeper ≡ Some users
   pub stands : StandsFor told state o users.value (entries_of left)
-  -- Whoever stood by, over whichever link, and however long it has been lost: by its name the standby's copy of their journal is no file, or one that stands for the users
-  -- after the first operations of that history, and maybe for one change more. All operations that ended by the last sync that was answered while Joined are
-  -- among the first.
+  -- Whoever stood by, and whenever either end stopped or was lost: by its name the standby's copy of their journal is no file, or one that stands for the users after the
+  -- first operations of that history, and maybe for one change more. All operations that ended by the last sync that was answered while Joined are among the first.
   pub standby : (t : told) → (pair : Pair) (by : ℕ) → o.handed ≤ by → (0 < pair.standby.synced → KeepsUp pair) → ReadsAlong (state users.value.journal.0) pair.primary by
       → IfSome (named pair.standby) (StandsForOperations o (stands.read t).operations by)
   -- Where no change is in doubt, and the mirror is Joined, it stands for the users after all of them.

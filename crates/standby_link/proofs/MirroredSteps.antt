@@ -1,11 +1,11 @@
 -- What a disk reads along with a primary, and what a standby's file is of that.
-use Rattle.std.specs.Prelude.{IfSome, MatchResult, ◌^◌, ◌<◌}
-use Rattle.std.proofs.Common.{◌≡◌, ◌⊎◌, inl, inr, ⊎_elim, ℕ, zero, suc, ◌+◌, ◌≤◌, max, Bool, true, false, List, [], ◌∷◌, ◌++◌, length, Option, Some, None, IsSome, Result, Ok, Err, slice_get, if◌then◌else◌, nat_eq, refl, sym, ◌∙◌, ap, subst, arith, length-append}
+use Rattle.std.specs.Prelude.{MatchResult}
+use Rattle.std.proofs.Common.{◌≡◌, ◌⊎◌, inl, inr, ⊎_elim, ℕ, zero, suc, ◌+◌, ◌≤◌, max, Bool, true, false, List, [], ◌∷◌, ◌++◌, length, Option, Some, None, Result, Ok, Err, slice_get, if◌then◌else◌, refl, sym, ◌∙◌, ap, subst, arith, length-append}
 use Rattle.std.proofs.lemmas.Bool.{cases_lt}
 use Rattle.std.proofs.lemmas.List.{length-map, map-append}
 use Rattle.std.proofs.lemmas.Option.{IfSome_then}
 use Rattle.dxc_disk.specs.declared.disk.DiskFault.{DiskFault}
-use Rattle.dxc_disk.specs.Disks.{DiskState, GoesOn, IsDisk, IsLength, IsRead, IsSync, IsSynced, IsWrite, Reading, ReadsLast, ReadsNoMore, ReadsOnce, bytes_at, files, reading_at}
+use Rattle.dxc_disk.specs.Disks.{DiskState, GoesOn, IsDisk, IsSync, IsSynced, IsWrite, Reading, ReadsLast, ReadsNoMore, ReadsOnce, bytes_at, files, reading_at}
 use Rattle.dxc_outside.specs.Links.{LinkState}
 use Rattle.dxc_outside.specs.declared.link.Lost.{Lost}
 use Rattle.standby_link.specs.declared.line.Line.{Line}
@@ -14,9 +14,9 @@ use Rattle.standby_link.specs.Calls.{HasMoment, HasSynced}
 use Rattle.standby_link.specs.Laws.{IsWhole, named}
 use Rattle.standby_link.specs.Lines.{line_at}
 use Rattle.standby_link.specs.Mirrored.{CallsKeepMirrors, CopiesAreReadings, CurrentCopiesAreWhole, IsInStep, IsReadFrom, JoinedAreCurrent, Mirrors, ReadsAlong, number_by}
-use Rattle.standby_link.specs.Mirrors.{Pair, Primary, called, failed, is_awaited, joining, moments, syncing, takes}
-use Rattle.standby_link.specs.Moves.{IsMoved, IsOn, IsSmall, StepsBySync, StepsByWrite, TookHaves, first_line, lost_by, mirrored, takes_all}
-use Rattle.standby_link.proofs.ActSteps.{get_front, get_last, get_more, get_within}
+use Rattle.standby_link.specs.Mirrors.{Primary, called, failed, is_awaited, joining, moments, syncing, takes}
+use Rattle.standby_link.specs.Moves.{IsOn, TookHaves, first_line, lost_by, mirrored, takes_all}
+use Rattle.standby_link.proofs.ActSteps.{get_front, get_last, get_more}
 use Rattle.standby_link.proofs.CallSteps.{calls_moments}
 use Rattle.standby_link.proofs.CopySteps.{whole_named}
 
