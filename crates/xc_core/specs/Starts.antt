@@ -66,5 +66,5 @@ pub record IsHoused {D : Type 0} (x : Start D) (h : Housed D) : Type 0 where
   pub table : h.beside.table ≡ x.table
   pub reports : h.beside.reports ≡ x.reports
   pub last : h.beside.last ≡ x.last
-  pub handed : h.beside.handed ≡ x.handed
+  pub handed : h.beside.handed.value ≡ x.handed.value
   pub p : h.driver.value.p ≡ x.p

@@ -233,7 +233,7 @@ pub(crate) fn begun<D: Disk>(housed: Housed<D>) -> State<D>
       home = In housed.driver;
       origin = result.origin;
     } }
-    ensures disk { result.origin.disk ≡ housed.beside.handed }
+    ensures disk { result.origin.disk.value ≡ housed.beside.handed.value }
     ensures table { result.origin.table.value ≡ housed.beside.table }
     ensures provisioner { result.origin.provisioner.value ≡ housed.driver.value.p }
     ensures last { result.origin.last.value ≡ housed.beside.last }
