@@ -1,8 +1,7 @@
 -- What the disk of a start has read since it was handed out.
 use Rattle.std.proofs.Common.{◌≡◌, ◌⊎◌, ℕ, inl, inr, ⊎_elim, List, [], Ok, None, sym, ◌∙◌, subst}
-use Rattle.std.specs.List.{AllByRecursion}
-use Rattle.dxc_disk.specs.Disks.{DiskState, IsDisk, Reading, ReadsNoMore, files}
-use Rattle.dxc_disk.proofs.ReadingSteps.{all_files}
+use Rattle.dxc_disk.specs.Alls.{all_weaker}
+use Rattle.dxc_disk.specs.Disks.{DiskState, IsDisk, ReadsNoMore, files}
 use Rattle.journal_core.specs.declared.book.Book.{Book}
 use Rattle.journal_core.specs.declared.head.Head.{Head}
 use Rattle.journal_core.specs.Headers.{IsNew, Stands, StandsAlike, header}
@@ -25,13 +24,13 @@ module _ (shelf : Contents) (first : Past) (a b c : DiskState) (book : Book) (di
   found_read : (head : Head) (records : List (List ℕ)) → shelf.shape ≡ first.fold.table.shape → IsSoFar first head records → Stands shelf.shape head records a.reads_as → OpensOld shelf.shape a b (Ok book) → HasRead (record { past = first; readings = files a.readings }) [] first c
   found_read head records shape so_far stands old =
       let old_file : (file : List ℕ) → StandsAlike shelf.shape a.reads_as file → IsOld first file = λ file alike. old_by first shelf.shape head records file shape (alike head records stands) so_far in
-      read_begun first shelf a c old.any_moment.on.more disk (no_more.readings ∙ old.any_moment.on.readings) (inl (old_file a.reads_as (λ e rs is. is)))
-      (all_files (λ file. StandsAlike shelf.shape a.reads_as file) Begins old.any_moment.on.more (λ file alike. inl (old_file file alike)) old.read)
+      read_begun first shelf a c old.read.more disk (no_more.readings ∙ old.read.readings) (inl (old_file a.reads_as (λ e rs is. is)))
+      (all_weaker (StandsAlike shelf.shape a.reads_as) Begins (files old.read.more) (λ file alike. inl (old_file file alike)) old.read.each)
 
   -- in a new one a journal is made
   made_read : IsNew a.reads_as → OpensNew shelf.shape (made_head shelf.equipped) a b (Ok book) → HasRead (record { past = first; readings = files a.readings }) [] first c
-  made_read is new = read_begun first shelf a c new.on.more disk (no_more.readings ∙ new.on.readings) (inr (inl is))
-      (all_files (IsFresh (header shelf.shape (made_head shelf.equipped))) Begins new.on.more (λ file fresh. inr fresh) new.read)
+  made_read is new = read_begun first shelf a c new.read.more disk (no_more.readings ∙ new.read.readings) (inr (inl is))
+      (all_weaker (IsFresh (header shelf.shape (made_head shelf.equipped))) Begins (files new.read.more) (λ file fresh. inr fresh) new.read.each)
 
   pub start_read : (head : Head) (records : List (List ℕ)) → shelf.shape ≡ first.fold.table.shape → IsSoFar first head records → ((IsNew a.reads_as → ⊥) → Stands shelf.shape head records a.reads_as × OpensOld shelf.shape a b (Ok book)) → (IsNew a.reads_as → OpensNew shelf.shape (made_head shelf.equipped) a b (Ok book))
       → HasRead (record { past = first; readings = files a.readings }) [] first c

@@ -2,8 +2,7 @@
 use Rattle.std.proofs.Common.{◌≡◌, ℕ, ◌≤◌, List, [], ◌∷◌, ◌++◌, append-nil, append_assoc, Option, None, refl, sym, ◌∙◌, ap, subst}
 use Rattle.std.specs.List.{AllByRecursion}
 use Rattle.dxc_disk.specs.Disks.{DiskState, IsDisk, LeavesOnly, Reading, files, last_read}
-use Rattle.dxc_disk.proofs.DiskSteps.{readings_have}
-use Rattle.dxc_disk.proofs.ReadingSteps.{all_files, files_on, last_on, reads_last}
+use Rattle.dxc_disk.proofs.ReadingSteps.{all_read, files_on, last_on, reads_last}
 use Rattle.dxc_model.specs.declared.op.Op.{Op}
 use Rattle.dxc_model.specs.declared.op.Change.{Change}
 use Rattle.shelf_file.specs.Contents.{Contents}
@@ -68,7 +67,7 @@ read_more from made now a b doubt task disk then_disk before only h =
     record {
       operations = h.operations ++ x ∷ [];
       begin = begin_more h.operations (x ∷ []) h.begin;
-      are = are_more from.past (last_read [] from.readings) h.operations now now x h.are (subst (MayBe now doubt task) (sym (last_file from made now a disk h)) before, all_files (MayBe now doubt task) (MayBe now doubt task) more (λ file is. is) (readings_have a b (MayBe now doubt task) then_disk only)) refl;
+      are = are_more from.past (last_read [] from.readings) h.operations now now x h.are (subst (MayBe now doubt task) (sym (last_file from made now a disk h)) before, all_read (MayBe now doubt task) a b then_disk only) refl;
       made_is = made_more h.operations (x ∷ []) ∙ (append-nil (made_in h.operations) ∙ h.made_is);
       readings = ap files only.on.readings ∙ (files_on a.readings more ∙ (ap (λ (l : List (List ℕ)). l ++ files more) h.readings ∙ (append_assoc from.readings (readings_in h.operations) (files more)
           ∙ ap (λ (l : List (List ℕ)). from.readings ++ l) (ap (λ (l : List (List ℕ)). readings_in h.operations ++ l) (sym (append-nil (files more))) ∙ sym (readings_more h.operations (x ∷ []))))));
