@@ -2,7 +2,7 @@
 use Rattle.std.proofs.Common.{◌≡◌, ⊎_elim, ℕ, ◌≤◌, List, [], ◌∷◌, ◌++◌, Result, Ok, Err, refl, sym, ◌∙◌, ap, subst, append_assoc}
 use Rattle.std.specs.List.{AllByRecursion}
 use Rattle.std.proofs.lemmas.List.{append-nil, map-append}
-use Rattle.dxc_disk.specs.Alls.{all_append, all_behind}
+use Rattle.dxc_disk.specs.Alls.{all_append, all_behind, all_weaker}
 use Rattle.dxc_disk.specs.Disks.{DiskState, IsDisk, LeavesOnly, Passes, Reading, Reads, ReadsOnce, ReadsOnly, files, last_read, reading_at}
 use Rattle.dxc_disk.proofs.DiskSteps.{leaves_only}
 
@@ -48,6 +48,9 @@ pub only_left : (P : List ℕ → Type 0) (a b : DiskState) → IsDisk a → IsD
 only_left P a b disk_a disk_b passes start =
     let leaves = leaves_only a b P disk_a passes start in
     record { more = leaves.on.more; readings = leaves.on.readings; each = all_read P a b disk_b leaves }
+
+pub only_as : (P Q : List ℕ → Type 0) (a b : DiskState) → ((x : List ℕ) → P x → Q x) → ReadsOnly a b P → ReadsOnly a b Q
+only_as P Q a b so only = record { more = only.more; readings = only.readings; each = all_weaker P Q (files only.more) so only.each }
 
 -- and in one after the other
 pub only_then : (P : List ℕ → Type 0) (a b c : DiskState) → ReadsOnly a b P → ReadsOnly b c P → ReadsOnly a c P
