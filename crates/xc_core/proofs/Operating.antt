@@ -35,7 +35,7 @@ are_more b file (y ∷ ys) now next x (head, (mid, first, rest)) all made = (
 )
 
 -- the last one made these changes besides
-made_by : Operation → List Operation → List Change → List Operation
+abbrev made_by : Operation → List Operation → List Change → List Operation
 made_by x [] cs = record x { made = x.made ++ cs } ∷ []
 made_by x (y ∷ ys) cs = x ∷ made_by y ys cs
 
