@@ -2,12 +2,15 @@
 use Rattle.std.proofs.Common.{◌≡◌, ◌≢◌, ◌⊎◌, inl, inr, ⊎_elim, ℕ, ◌+◌, ◌-◌, ◌<◌, ◌≤◌, false, append-nil, length-append, List, [], ◌++◌, length, None, Result, Ok, Err, refl, sym, ◌∙◌, ap, subst, arith}
 use Rattle.std.specs.Prelude.{replicate, slice_index}
 use Rattle.std.specs.FinMap.{len}
+use Rattle.std.specs.List.{AllByRecursion}
 use Rattle.std.proofs.lemmas.List.{length-replicate, length-take}
 use Rattle.std.proofs.lemmas.Bool.Decides.{leb_tells}
 use Rattle.dxc_num.specs.Dimensions.{Dimensions}
-use Rattle.dxc_disk.specs.Disks.{DiskState, CountsOn, IsDisk, IsSettled, IsSound, LeavesOnly, Looks, Spends}
-use Rattle.dxc_disk.proofs.DiskSteps.{sound_on, spends_more, spends_on}
+use Rattle.dxc_disk.specs.Alls.{all_weaker}
+use Rattle.dxc_disk.specs.Disks.{DiskState, CountsOn, IsDisk, IsSettled, IsSound, IsSynced, LeavesOnly, Looks, Reading, ReadsNoMore, Spends, files, last_read}
+use Rattle.dxc_disk.proofs.DiskSteps.{goes_on, no_more_synced, sound_on, spends_more, spends_on}
 use Rattle.dxc_disk.proofs.LookSteps.{looks_settled}
+use Rattle.dxc_disk.proofs.ReadingSteps.{files_on, reads_last}
 use Rattle.journal_core.specs.declared.area.Area.{Area}
 use Rattle.journal_core.specs.declared.book.Book.{Book}
 use Rattle.journal_core.specs.declared.fault.JournalWhy.{JournalWhy}
@@ -31,9 +34,10 @@ use Rattle.user_admin.specs.Spellable.{AreDescribed}
 use Rattle.user_admin.specs.Files.{FoldsTo}
 use Rattle.user_admin.specs.Journals.{IsAtHome, IsBadRecord}
 use Rattle.user_admin.specs.Histories.{Opening}
+use Rattle.user_admin.specs.Operations.{HasRead, IsFileOf, MayBeAtStart}
 use Rattle.user_admin.specs.States.{IsOfShelf, StandsFor, opening_of, recorded}
 use Rattle.user_admin.specs.Openings.{Begins, HasBadRecord, IsOpening, LeavesOpened}
-use Rattle.user_admin.proofs.Keeping.{untried}
+use Rattle.user_admin.proofs.Keeping.{file_by, untried}
 use Rattle.user_admin.proofs.Folding.{fold_spellable}
 use Rattle.user_admin.proofs.Standing.{paid_counted, stands_at}
 
@@ -100,11 +104,11 @@ bad_record shelf h a b book i users left same disk whole mended still old new ba
 -- what holds of a crash at any moment of a call holds still where only looks came after it
 looked_on : (a b c : DiskState) (P : List ℕ → Type 0) → IsDisk b → LeavesOnly a b P → Looks b c → LeavesOnly a c P
 looked_on a b c P disk first looks =
-    let image_has : (x : List ℕ) → c.may_leave x → P x = λ x image. first.each x (disk.counts_now a.moment x first.later (looks.crash x image)) in
+    let image_has : (x : List ℕ) → c.may_leave x → P x = λ x image. first.each x (disk.counts_now a.moment x first.on.later (looks.crash x image)) in
     record {
-      later = omega (arith, first.later, looks.time.later);
-      each = λ x left. ⊎_elim (λ mid. first.each x mid) (λ image. image_has x image) (looks.time.nothing_else a.moment x first.later left);
-      before = λ t x le left. ⊎_elim (λ mid. first.before t x le mid) (λ image. inr (image_has x image)) (looks.time.nothing_else t x (omega (arith, le, first.later)) left);
+      on = goes_on a b c first.on looks.time.on;
+      each = λ x left. ⊎_elim (λ mid. first.each x mid) (λ image. image_has x image) (looks.time.nothing_else a.moment x first.on.later left);
+      before = λ t x le left. ⊎_elim (λ mid. first.before t x le mid) (λ image. inr (image_has x image)) (looks.time.nothing_else t x (omega (arith, le, first.on.later)) left);
     }
 
 -- the moments of an opening, and of looks after it
@@ -137,9 +141,14 @@ recorded_is book file counts =
     let none : book.count - length (listed book file) ≡ 0 = omega (arith, counts) in
     ap (λ (n : ℕ). listed book file ++ replicate n []) none ∙ append-nil (listed book file)
 
+all_files : (P : List ℕ → Type 0) (rs : List Reading) → AllByRecursion (λ r. P r.file) rs → AllByRecursion P (files rs)
+all_files P [] all = tt
+all_files P (r ∷ rs) all = (all.0, all_files P rs all.1)
+
 -- a disk whose journal was opened, and whose records were taken
 module _ {D : Type 0} (told : Type 0) (state : D → DiskState) (shelf : Contents) (a b : DiskState) (book : Book) (s : UserState D) (records : List (List ℕ))
     (shelf_kept : s.origin.shelf.value ≡ shelf)
+    (handed : (state s.origin.disk.value).readings ≡ a.readings)
     (users_kept : s.origin.users.value ≡ s.lists.value.users)
     (journal_kept : s.origin.journal.value ≡ s.journal)
     (sid : s.sid ≡ shelf.sid)
@@ -148,6 +157,7 @@ module _ {D : Type 0} (told : Type 0) (state : D → DiskState) (shelf : Content
     (spelled : AreDescribed (shelf_users shelf))
     (old : told → (IsNew a.reads_as → ⊥) → OpensOld shelf.shape a b (Ok book))
     (new : told → IsNew a.reads_as → OpensNew shelf.shape (made_head shelf.equipped) a b (Ok book))
+    (was_disk : told → IsDisk a)
     (disk : told → IsDisk b)
     (disk_now : told → IsDisk (state s.journal.0))
     (counts_on : CountsOn (state s.journal.0))
@@ -157,6 +167,7 @@ module _ {D : Type 0} (told : Type 0) (state : D → DiskState) (shelf : Content
     (still : book.turning ≡ false)
     (same : s.journal.1 ≡ book)
     (looks : told → Looks b (state s.journal.0))
+    (no_more : told → ReadsNoMore b (state s.journal.0))
     (kept : told → IsKept b book → IsKept (state s.journal.0) s.journal.1)
     (number : length records ≡ book.count)
     (read : told → records ≡ listed book b.reads_as)
@@ -166,6 +177,7 @@ module _ {D : Type 0} (told : Type 0) (state : D → DiskState) (shelf : Content
     shelf = shelf;
     records = recorded s.journal.1 (state s.journal.0).reads_as;
     users = s.lists.value.users;
+    readings = files a.readings;
     faults = (state s.journal.0).faults;
     margin = (state s.journal.0).margin;
     room = (state s.journal.0).room;
@@ -176,6 +188,7 @@ module _ {D : Type 0} (told : Type 0) (state : D → DiskState) (shelf : Content
     shelf = shelf_kept k;
     records = recorded (journal_kept k).1 (state (journal_kept k).0).reads_as;
     users = users_kept k;
+    readings = files (handed k);
     faults = (state (journal_kept k).0).faults;
     margin = (state (journal_kept k).0).margin;
     room = (state (journal_kept k).0).room;
@@ -219,10 +232,54 @@ module _ {D : Type 0} (told : Type 0) (state : D → DiskState) (shelf : Content
   of_shelf : IsOfShelf opening s
   of_shelf = record { sid = sid; described = described; shape = ap (λ (x : Book). x.shape) same ∙ shape; few = few; spelled = spelled }
 
+  -- a file that stands for what was found stands for the users at the opening
+  alike_opened : (x : told) → (IsNew a.reads_as → ⊥) → (file : List ℕ) → StandsAlike shelf.shape a.reads_as file → IsFileOf opening [] file
+  alike_opened x not file alike = file_by shelf.shape book.head (shelf_users shelf) s.lists.value.users (listed book b.reads_as) file (alike book.head (listed book b.reads_as) (old x not).finds.1)
+      (subst (λ (rs : List (List ℕ)). FoldsTo (shelf_users shelf) rs s.lists.value.users) (read x) folds)
+
+  -- what the opening read
+  record ReadAtStart : Type 0 where
+    pub more : List Reading
+    pub goes : b.readings ≡ a.readings ++ more
+    pub first : MayBeAtStart opening a.reads_as
+    pub each : AllByRecursion (λ r. MayBeAtStart opening r.file) more
+    pub synced : IsSynced b
+
+  read_at_start : told → ReadAtStart
+  read_at_start x = ⊎_elim
+      (λ n. record {
+        more = (new x n).on.more;
+        goes = (new x n).on.readings;
+        first = inr (inl n);
+        each = all_weaker (λ r. IsFresh (header shelf.shape (made_head shelf.equipped)) r.file) (λ r. MayBeAtStart opening r.file) (new x n).on.more (λ r fresh. inr fresh) (new x n).read;
+        synced = (new x n).synced;
+      })
+      (λ not. record {
+        more = (old x not).any_moment.on.more;
+        goes = (old x not).any_moment.on.readings;
+        first = inl (alike_opened x not a.reads_as (λ e rs stands. stands));
+        each = all_weaker (λ r. StandsAlike shelf.shape a.reads_as r.file) (λ r. MayBeAtStart opening r.file) (old x not).any_moment.on.more (λ r alike. inl (alike_opened x not r.file alike)) (old x not).read;
+        synced = (old x not).synced;
+      })
+      (new_or_old a.reads_as)
+
+  read_opened : told → HasRead opening [] (state s.journal.0)
+  read_opened x =
+      let r = read_at_start x in
+      record {
+        started = files r.more;
+        operations = [];
+        start = (subst (MayBeAtStart opening) (sym (reads_last a (was_disk x))) r.first, all_files (MayBeAtStart opening) r.more r.each);
+        are = tt;
+        entered = refl;
+        readings = ap files (no_more x).readings ∙ (ap files r.goes ∙ (files_on a.readings r.more ∙ ap (λ (fs : List (List ℕ)). files a.readings ++ fs) (sym (append-nil (files r.more)))));
+        synced = inl (no_more_synced b (state s.journal.0) (no_more x) r.synced);
+      }
+
   stands_opened : StandsFor told state opening s []
   stands_opened = stands_at told state opening s [] disk_now of_shelf (subst IsWhole (sym same) whole_book) None (λ c e. absurd cc) journal_home refl
       record { opened = (folds.0, folds.2, folds.3); entries = tt } (omega arith) (λ enough. record { room = omega arith; margin = omega arith })
-      (paid_counted opening [] (state s.journal.0) counts_on (omega arith) (λ enough. record { room = omega arith; margin = omega arith })) (fold_spellable (shelf_users shelf) records s.lists.value.users spelled folds)
+      (paid_counted opening [] (state s.journal.0) counts_on (omega arith) (λ enough. record { room = omega arith; margin = omega arith })) (fold_spellable (shelf_users shelf) records s.lists.value.users spelled folds) read_opened
 
   pub opened : IsOpening told a.reads_as shelf (opening_of state s) × Begins told state s
   opened = (
