@@ -2,15 +2,13 @@
 use Rattle.std.proofs.Common.{◌≡◌, ◌≢◌, ◌⊎◌, inl, inr, ⊎_elim, ℕ, ◌+◌, ◌-◌, ◌<◌, ◌≤◌, false, append-nil, length-append, List, [], ◌++◌, length, None, Result, Ok, Err, refl, sym, ◌∙◌, ap, subst, arith}
 use Rattle.std.specs.Prelude.{replicate, slice_index}
 use Rattle.std.specs.FinMap.{len}
-use Rattle.std.specs.List.{AllByRecursion}
 use Rattle.std.proofs.lemmas.List.{length-replicate, length-take}
 use Rattle.std.proofs.lemmas.Bool.Decides.{leb_tells}
 use Rattle.dxc_num.specs.Dimensions.{Dimensions}
-use Rattle.dxc_disk.specs.Alls.{all_weaker}
-use Rattle.dxc_disk.specs.Disks.{DiskState, CountsOn, IsDisk, IsSettled, IsSound, IsSynced, LeavesOnly, Looks, Reading, ReadsNoMore, Spends, files, last_read}
+use Rattle.dxc_disk.specs.Disks.{DiskState, CountsOn, IsDisk, IsSettled, IsSound, IsSynced, LeavesOnly, Looks, ReadsNoMore, ReadsOnly, Spends, files}
 use Rattle.dxc_disk.proofs.DiskSteps.{goes_on, no_more_synced, sound_on, spends_more, spends_on}
 use Rattle.dxc_disk.proofs.LookSteps.{looks_settled}
-use Rattle.dxc_disk.proofs.ReadingSteps.{files_on, reads_last}
+use Rattle.dxc_disk.proofs.ReadingSteps.{files_on, only_as, reads_last}
 use Rattle.journal_core.specs.declared.area.Area.{Area}
 use Rattle.journal_core.specs.declared.book.Book.{Book}
 use Rattle.journal_core.specs.declared.fault.JournalWhy.{JournalWhy}
@@ -141,10 +139,6 @@ recorded_is book file counts =
     let none : book.count - length (listed book file) ≡ 0 = omega (arith, counts) in
     ap (λ (n : ℕ). listed book file ++ replicate n []) none ∙ append-nil (listed book file)
 
-all_files : (P : List ℕ → Type 0) (rs : List Reading) → AllByRecursion (λ r. P r.file) rs → AllByRecursion P (files rs)
-all_files P [] all = tt
-all_files P (r ∷ rs) all = (all.0, all_files P rs all.1)
-
 -- a disk whose journal was opened, and whose records were taken
 module _ {D : Type 0} (told : Type 0) (state : D → DiskState) (shelf : Contents) (a b : DiskState) (book : Book) (s : UserState D) (records : List (List ℕ))
     (shelf_kept : s.origin.shelf.value ≡ shelf)
@@ -237,43 +231,31 @@ module _ {D : Type 0} (told : Type 0) (state : D → DiskState) (shelf : Content
   alike_opened x not file alike = file_by shelf.shape book.head (shelf_users shelf) s.lists.value.users (listed book b.reads_as) file (alike book.head (listed book b.reads_as) (old x not).finds.1)
       (subst (λ (rs : List (List ℕ)). FoldsTo (shelf_users shelf) rs s.lists.value.users) (read x) folds)
 
-  -- what the opening read
-  record ReadAtStart : Type 0 where
-    pub more : List Reading
-    pub goes : b.readings ≡ a.readings ++ more
-    pub first : MayBeAtStart opening a.reads_as
-    pub each : AllByRecursion (λ r. MayBeAtStart opening r.file) more
-    pub synced : IsSynced b
+  -- what it read then
+  first_read : told → MayBeAtStart opening a.reads_as
+  first_read x = ⊎_elim (λ n. inr (inl n)) (λ not. inl (alike_opened x not a.reads_as (λ e rs stands. stands))) (new_or_old a.reads_as)
 
-  read_at_start : told → ReadAtStart
-  read_at_start x = ⊎_elim
-      (λ n. record {
-        more = (new x n).on.more;
-        goes = (new x n).on.readings;
-        first = inr (inl n);
-        each = all_weaker (λ r. IsFresh (header shelf.shape (made_head shelf.equipped)) r.file) (λ r. MayBeAtStart opening r.file) (new x n).on.more (λ r fresh. inr fresh) (new x n).read;
-        synced = (new x n).synced;
-      })
-      (λ not. record {
-        more = (old x not).any_moment.on.more;
-        goes = (old x not).any_moment.on.readings;
-        first = inl (alike_opened x not a.reads_as (λ e rs stands. stands));
-        each = all_weaker (λ r. StandsAlike shelf.shape a.reads_as r.file) (λ r. MayBeAtStart opening r.file) (old x not).any_moment.on.more (λ r alike. inl (alike_opened x not r.file alike)) (old x not).read;
-        synced = (old x not).synced;
-      })
+  -- and in the start
+  start_read : told → ReadsOnly a b (MayBeAtStart opening)
+  start_read x = ⊎_elim
+      (λ n. only_as (IsFresh (header shelf.shape (made_head shelf.equipped))) (MayBeAtStart opening) a b (λ file fresh. inr fresh) (new x n).read)
+      (λ not. only_as (StandsAlike shelf.shape a.reads_as) (MayBeAtStart opening) a b (λ file alike. inl (alike_opened x not file alike)) (old x not).read)
       (new_or_old a.reads_as)
+
+  was_synced : told → IsSynced b
+  was_synced x = ⊎_elim (λ n. (new x n).synced) (λ not. (old x not).synced) (new_or_old a.reads_as)
 
   read_opened : told → HasRead opening [] (state s.journal.0)
   read_opened x =
-      let r = read_at_start x in
+      let only = start_read x in
       record {
-        started = files r.more;
+        started = files only.more;
         operations = [];
-        start = (subst (MayBeAtStart opening) (sym (reads_last a (was_disk x))) r.first, all_files (MayBeAtStart opening) r.more r.each);
+        start = (subst (MayBeAtStart opening) (sym (reads_last a (was_disk x))) (first_read x), only.each);
         are = tt;
         entered = refl;
-        readings = ap files (no_more x).readings ∙ (ap files r.goes ∙ (files_on a.readings r.more ∙ ap (λ (fs : List (List ℕ)). files a.readings ++ fs) (sym (append-nil (files r.more)))));
-        synced = inl (no_more_synced b (state s.journal.0) (no_more x) r.synced);
+        readings = ap files (no_more x).readings ∙ (ap files only.readings ∙ (files_on a.readings only.more ∙ ap (λ (fs : List (List ℕ)). files a.readings ++ fs) (sym (append-nil (files only.more)))));
+        synced = inl (no_more_synced b (state s.journal.0) (no_more x) (was_synced x));
       }
 
   stands_opened : StandsFor told state opening s []

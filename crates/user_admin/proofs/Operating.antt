@@ -1,7 +1,7 @@
 -- What the users' journal's disk has read, one operation of the history after the other.
 use Rattle.std.proofs.Common.{◌≡◌, ◌⊎◌, inl, ℕ, List, [], ◌∷◌, ◌++◌, append-nil, append_assoc, refl, sym, ◌∙◌, ap, subst}
 use Rattle.std.specs.List.{AllByRecursion}
-use Rattle.dxc_disk.specs.Disks.{DiskState, IsDisk, IsSynced, Reading, files, last_read}
+use Rattle.dxc_disk.specs.Disks.{DiskState, IsDisk, IsSynced, ReadsOnly, files, last_read}
 use Rattle.dxc_disk.proofs.ReadingSteps.{files_on, last_on, reads_last}
 use Rattle.user_admin.specs.declared.op.UserChange.{UserChange}
 use Rattle.user_admin.specs.declared.op.UserEntry.{UserEntry}
@@ -30,30 +30,30 @@ module _ (o : Opening) (h : List UserEntry) (old : DiskState) (disk : IsDisk old
       sym (last_on (last_read [] o.readings) x.started (readings_in x.operations))
       ∙ (sym (last_on [] o.readings (x.started ++ readings_in x.operations)) ∙ (ap (last_read []) (sym x.readings) ∙ reads_last old disk))
 
-  module _ (new : DiskState) (more : List Reading) (e : UserEntry) (goes : new.readings ≡ old.readings ++ more) where
+  module _ (new : DiskState) (e : UserEntry) (only : ReadsOnly old new (MayBe o h e.op)) where
     abbrev done : Operation
-    done = record { entry = e; readings = files more }
+    done = record { entry = e; readings = files only.more }
 
     -- behind what was read in all operations before
-    behind : readings_in x.operations ++ files more ≡ readings_in (x.operations ++ done ∷ [])
-    behind = ap (λ (fs : List (List ℕ)). readings_in x.operations ++ fs) (sym (append-nil (files more))) ∙ sym (readings_append x.operations (done ∷ []))
+    behind : readings_in x.operations ++ files only.more ≡ readings_in (x.operations ++ done ∷ [])
+    behind = ap (λ (fs : List (List ℕ)). readings_in x.operations ++ fs) (sym (append-nil (files only.more))) ∙ sym (readings_append x.operations (done ∷ []))
 
     reads_more : files new.readings ≡ o.readings ++ (x.started ++ readings_in (x.operations ++ done ∷ []))
     reads_more =
-        ap files goes
-        ∙ (files_on old.readings more
-        ∙ (ap (λ (fs : List (List ℕ)). fs ++ files more) x.readings
-        ∙ (append_assoc o.readings (x.started ++ readings_in x.operations) (files more)
-        ∙ ap (λ (fs : List (List ℕ)). o.readings ++ fs) (append_assoc x.started (readings_in x.operations) (files more) ∙ ap (λ (fs : List (List ℕ)). x.started ++ fs) behind))))
+        ap files only.readings
+        ∙ (files_on old.readings only.more
+        ∙ (ap (λ (fs : List (List ℕ)). fs ++ files only.more) x.readings
+        ∙ (append_assoc o.readings (x.started ++ readings_in x.operations) (files only.more)
+        ∙ ap (λ (fs : List (List ℕ)). o.readings ++ fs) (append_assoc x.started (readings_in x.operations) (files only.more) ∙ ap (λ (fs : List (List ℕ)). x.started ++ fs) behind))))
 
-    -- one operation more, in which it read these
-    pub read_more : IsFileAfter o h old.reads_as → AllByRecursion (MayBe o h e.op) (files more) → (IsSynced new ⊎ ((c : UserChange) × IsInDoubt o (h ++ e ∷ []) c)) → HasRead o (h ++ e ∷ []) new
-    read_more stands each synced = record {
+    -- one operation more
+    pub read_more : IsFileAfter o h old.reads_as → (IsSynced new ⊎ ((c : UserChange) × IsInDoubt o (h ++ e ∷ []) c)) → HasRead o (h ++ e ∷ []) new
+    read_more stands synced = record {
       started = x.started;
       operations = x.operations ++ done ∷ [];
       start = x.start;
       are = are_more o [] (last_read (last_read [] o.readings) x.started) x.operations done x.are
-          (subst (λ (w : List UserEntry × List ℕ). AllByRecursion (MayBe o w.0 e.op) (w.1 ∷ files more)) (λ i. (sym x.entered i, sym read_so_far i)) (inl stands, each));
+          (subst (λ (w : List UserEntry × List ℕ). AllByRecursion (MayBe o w.0 e.op) (w.1 ∷ files only.more)) (λ i. (sym x.entered i, sym read_so_far i)) (inl stands, only.each));
       entered = entries_append x.operations (done ∷ []) ∙ ap (λ (es : List UserEntry). es ++ e ∷ []) x.entered;
       readings = reads_more;
       synced = synced;

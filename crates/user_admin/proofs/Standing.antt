@@ -6,7 +6,7 @@ use Rattle.dxc_causes.specs.Causes.{Rose, last}
 use Rattle.dxc_num.specs.Dimensions.{Dimensions}
 use Rattle.dxc_disk.specs.Disks.{CountsOn, DiskState, IsDisk, IsSpent, IsSynced, LeavesOnly, Spends}
 use Rattle.dxc_disk.proofs.DiskSteps.{spends_none}
-use Rattle.dxc_disk.proofs.ReadingSteps.{all_read}
+use Rattle.dxc_disk.proofs.ReadingSteps.{all_read, only_none}
 use Rattle.dxc_model.specs.declared.cause.Cause.{Cause}
 use Rattle.dxc_model.specs.declared.cause.Cause.TheVariants.{BadIdentity, DiskFault, LastOfClassS, UnknownUser, UserThere, UsersFull}
 use Rattle.dxc_model.specs.declared.user.Class.{Class}
@@ -250,12 +250,13 @@ module _ {D : Type 0} (told : Type 0) (state : D → DiskState) (o : Opening) (s
 
   -- an operation that made no call and no change
   read_none : (told → IsDisk (state s.journal.0)) → (e : UserEntry) → change_in e.outcome ≡ [] → told → HasRead o (h ++ e ∷ []) (state s.journal.0)
-  read_none disk e none x = read_more o h (state s.journal.0) (disk x) (st.read x) (state s.journal.0) [] e (sym (append-nil (state s.journal.0).readings)) (reads_after x) tt
+  read_none disk e none x = read_more o h (state s.journal.0) (disk x) (st.read x) (state s.journal.0) e (only_none (MayBe o h e.op) (state s.journal.0) (state s.journal.0) refl) (reads_after x)
       (⊎_elim (λ synced. inl synced) (λ doubt. inr (doubt.0, doubt_more o h e doubt.0 none doubt.1)) (st.read x).synced)
 
   -- one that made calls
   read_calls : (told → IsDisk (state s.journal.0)) → (new : DiskState) → (told → IsDisk new) → (e : UserEntry) → (told → LeavesOnly (state s.journal.0) new (MayBe o h e.op)) → (told → IsSynced new ⊎ ((c : UserChange) × IsInDoubt o (h ++ e ∷ []) c)) → told → HasRead o (h ++ e ∷ []) new
-  read_calls disk new disk_now e left synced x = read_more o h (state s.journal.0) (disk x) (st.read x) new (left x).on.more e (left x).on.readings (reads_after x) (all_read (MayBe o h e.op) (state s.journal.0) new (disk_now x) (left x)) (synced x)
+  read_calls disk new disk_now e left synced x = read_more o h (state s.journal.0) (disk x) (st.read x) new e
+      (record { more = (left x).on.more; readings = (left x).on.readings; each = all_read (MayBe o h e.op) (state s.journal.0) new (disk_now x) (left x) }) (reads_after x) (synced x)
 
   pub granted_at : (op : UserOp) (c : UserChange) → Grants s.sid op s.lists.value.users c → Grants o.shelf.sid op (users_after o h) c
   granted_at op c granted = subst (λ (w : List ℕ × Users). Grants w.0 op w.1 c) (λ i. (st.of_shelf.sid i, st.users i)) granted
