@@ -1,5 +1,5 @@
 -- The users' keeper, where no place has it out.
-use Rattle.std.specs.Prelude.{◌≡◌, ◌≤◌, ◌<◌, ℕ, List, Option, Some, None, IfSome, Box}
+use Rattle.std.specs.Prelude.{◌≡◌, ◌≤◌, ◌<◌, ℕ, List, length, Option, Some, None, IfSome, Box}
 use Rattle.std.specs.declared.alloc.Global.{Global}
 use Rattle.dxc_disk.specs.Disks.{DiskState}
 use Rattle.user_admin.specs.declared.op.UserChange.{UserChange}
@@ -23,8 +23,8 @@ pub record IsKeeperHome {D : Type 0} (told : Type 0) (state : D → DiskState) (
   pub stands : StandsFor told state o users.value (entries_of left)
   -- Whoever stood by, and whenever either end stopped or was lost: by its name the standby's copy of their journal is no file, or one that stands for the users after the
   -- first operations of that history, and maybe for one change more. All operations that ended by the last sync that was answered while Joined are among the first.
-  pub standby : (t : told) → (pair : Pair) (by : ℕ) → o.handed ≤ by → (0 < pair.standby.synced → KeepsUp pair) → ReadsAlong (state users.value.journal.0) pair.primary by
-      → IfSome (named pair.standby) (StandsForOperations o (stands.read t).operations by)
+  pub standby : (t : told) → (pair : Pair) (by : ℕ) → length o.readings ≤ by → (0 < pair.standby.synced → KeepsUp pair) → ReadsAlong (state users.value.journal.0) pair.primary by
+      → IfSome (named pair.standby) (StandsForOperations (stands.read t) by)
   -- Where no change is in doubt, and the mirror is Joined, it stands for the users after all of them.
   pub joined : told → ((c : UserChange) → IsInDoubt o (entries_of left) c → ⊥) → (pair : Pair) (line : LineState) (by : ℕ) → (0 < pair.standby.synced → KeepsUp pair)
       → Mirrors told (mirrored (state users.value.journal.0) line) pair.primary by → line.lost ≡ None → IfSome (named pair.standby) (IsFileOf o (entries_of left))
