@@ -138,7 +138,7 @@ module _ {D : Type 0} (told : Type 0) (state : D → DiskState) (t : told) (disk
       let there : suc place ≡ begun + n = omega (arith, since) in
       let get : slice_get ([] ∷ (from.readings ++ readings_in xs)) (suc place) ≡ Some file = ap (λ (l : List (List ℕ)). slice_get l place) (sym x.readings) ∙ at in
       let f : Found from.past xs p.doubt (by - begun) file = find from.past (last_read [] from.readings) xs b p.doubt x.are (subst (IsOldOrDoubted b p.doubt) (sym (last_file from made b s (disk p.journal.0) x)) (rests b p is)) (by - begun) n file (omega (arith, late, since))
-          (sym (over_last [] from.readings (readings_in xs) n) ∙ (ap (slice_get ([] ∷ (from.readings ++ readings_in xs))) (sym there) ∙ get)) in
+      (sym (over_last [] from.readings (readings_in xs) n) ∙ (ap (slice_get ([] ∷ (from.readings ++ readings_in xs))) (sym there) ∙ get)) in
       record { number = f.number; holds = λ k few ended. f.holds k few (omega (arith, ended)); past = f.past; reckoned = f.reckoned; stands = f.stands }
 
 pub readings_stand : {D : Type 0} (told : Type 0) (state : D → DiskState) → ((d : D) → told → IsDisk (state d)) → ReadingsStand told state

@@ -144,8 +144,11 @@ module _ {D : Type 0} (told : Type 0) (state : D → DiskState) where
           turns = turns_more None h e st.turns (waits_own e place (subst (BringsHome op e.op) (sym cut) same));
           paid = paid_now e q journal none costs counts;
           astray = astray_more told h e st.astray (λ k x. let y : Cut ≡ Failed JournalAstray = sym cut ∙ x in cc);
-          home = (home_now e place, subst (λ (x : Provisioner D). IsHomeAfter told state o t.now (h ++ e ∷ []) x) (sym is) (in_now t.now e q ground journal none costs (inr (halted, lasts_now (λ y. IsCut y ⊎ IsFailedRestart y) IsRestarted h e (inl cut))) (doubts_cut h e q cut doubt)
-              (λ k. subst (λ (cs : List Change). HasRead (outset_of o) cs t.now (state p.journal.0)) (sym unchanged) (t.read k)) (λ k clear. absurd (clear (lasts_now IsDoubtful IsSettling h e (inl cut))))));
+          home = (
+            home_now e place,
+            subst (λ (x : Provisioner D). IsHomeAfter told state o t.now (h ++ e ∷ []) x) (sym is) (in_now t.now e q ground journal none costs (inr (halted, lasts_now (λ y. IsCut y ⊎ IsFailedRestart y) IsRestarted h e (inl cut))) (doubts_cut h e q cut doubt)
+                (λ k. subst (λ (cs : List Change). HasRead (outset_of o) cs t.now (state p.journal.0)) (sym unchanged) (t.read k)) (λ k clear. absurd (clear (lasts_now IsDoubtful IsSettling h e (inl cut))))),
+          );
         }
 
   module _ (o : Opening) (s : State D) (h : List Entry) (st : StandsFor told state o s h) (own : ℕ) (op : Op) (p : Provisioner D) (r : RollingAt) (t : HasTaken told state o own op h p r) where

@@ -176,8 +176,8 @@ module _ {D : Type 0} (told : Type 0) (state : D → DiskState) where
   read_noted o own h q p plan x left k =
       let l = left k in
       read_more (outset_of o) (changes_of h) x.out.now (state q.journal.0) (state p.journal.0) q.doubt (change plan.op) l.0 l.1
-          (doubted_or_more x.out.now q.doubt plan.op (state q.journal.0).reads_as (home_images told (state q.journal.0) q.journal.1 x.out.now q.doubt (sym x.may.home.past.shape) x.may.home.journal k x.may.home.past.book (state q.journal.0).reads_as l.0.reads_now))
-          l.2 (x.out.read k)
+      (doubted_or_more x.out.now q.doubt plan.op (state q.journal.0).reads_as (home_images told (state q.journal.0) q.journal.1 x.out.now q.doubt (sym x.may.home.past.shape) x.may.home.journal k x.may.home.past.book (state q.journal.0).reads_as l.0.reads_now))
+      l.2 (x.out.read k)
 
   -- the record is in the journal
   pub plan_noted : (o : Opening) (own : ℕ) (h : List Entry) (q p : Provisioner D) (plan : Plan) (x : HasPlan told state o own h q plan) → ground_of p ≡ ground_of q → (state q.journal.0).faults ≤ (state p.journal.0).faults → Spends most_room (state q.journal.0) (state p.journal.0)

@@ -254,7 +254,7 @@ module _ {D : Type 0} (told : Type 0) (state : D → DiskState) (shelf : Content
     -- what its disk has read since it was handed out
     begun_read : (k : told) → IsDisk a → HasRead (record { past = first; readings = files a.readings }) [] first (state j.0)
     begun_read k first_disk = start_read shelf first a b (state j.0) book first_disk (r.no_more k) j.1.head (listed j.1 (state j.0).reads_as) (sym r.shape ∙ table_shape) (ops, listed_comes k)
-        (λ not. (subst (λ (w : Head × List (List ℕ)). Stands shelf.shape w.0 w.1 a.reads_as) (λ i. (ap (λ (y : Book). y.head) (sym r.same) i, listed (sym r.same i) (sym ((r.looks k).same) i)) ) (r.old k not).finds.1, r.old k not)) (r.new k)
+        (λ not. (subst (λ (w : Head × List (List ℕ)). Stands shelf.shape w.0 w.1 a.reads_as) (λ i. (ap (λ (y : Book). y.head) (sym r.same) i, listed (sym r.same i) (sym ((r.looks k).same) i))) (r.old k not).finds.1, r.old k not)) (r.new k)
 
     fold_home : IsFoldOf told shelf.shape (recorded j.1 (state j.0).reads_as) first
     fold_home = record {
