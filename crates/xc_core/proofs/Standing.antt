@@ -108,7 +108,7 @@ module _ {D : Type 0} (told : Type 0) (state : D → DiskState) where
         }
 
     -- no change was made, and the journal wasn't called
-    read_same : (e : Entry) → made e.outcome ≡ None → (p : Provisioner D) → HasRead (outset_of o) (changes_of h) st.now (state p.journal.0) → HasRead (outset_of o) (changes_of (h ++ e ∷ [])) st.now (state p.journal.0)
+    pub read_same : (e : Entry) → made e.outcome ≡ None → (p : Provisioner D) → HasRead (outset_of o) (changes_of h) st.now (state p.journal.0) → HasRead (outset_of o) (changes_of (h ++ e ∷ [])) st.now (state p.journal.0)
     read_same e none p read = subst (λ (cs : List Change). HasRead (outset_of o) cs st.now (state p.journal.0)) (sym (changes_same h e none)) read
 
     home_read : (e : Entry) (x : Home D) → made e.outcome ≡ None → fault_in e.outcome ≡ 0 → (IsCut e → ⊥) → (IsRestarted e → ⊥) → (IsSettling e → ⊥) → holder_after (holder None h) e ≡ holder None h → HomeIs told state o st.now h x → HomeIs told state o st.now (h ++ e ∷ []) x
