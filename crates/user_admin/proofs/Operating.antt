@@ -20,8 +20,11 @@ readings_append (p ∷ ps) qs = ap (λ (fs : List (List ℕ)). p.readings ++ fs)
 are_more : (o : Opening) (h : List UserEntry) (file : List ℕ) (ps : List Operation) (p : Operation) → AreOperations o h file ps
     → AllByRecursion (MayBe o (h ++ entries_in ps) p.entry.op) (last_read file (readings_in ps) ∷ p.readings) → AreOperations o h file (ps ++ p ∷ [])
 are_more o h file [] p are all = (subst (λ (g : List UserEntry). AllByRecursion (MayBe o g p.entry.op) (file ∷ p.readings)) (append-nil h) all, tt)
-are_more o h file (q ∷ ps) p are all = (are.0, are_more o (h ++ q.entry ∷ []) (last_read file q.readings) ps p are.1
-    (subst (λ (w : List UserEntry × List ℕ). AllByRecursion (MayBe o w.0 p.entry.op) (w.1 ∷ p.readings)) (λ i. (sym (append_assoc h (q.entry ∷ []) (entries_in ps)) i, last_on file q.readings (readings_in ps) i)) all))
+are_more o h file (q ∷ ps) p are all = (
+  are.0,
+  are_more o (h ++ q.entry ∷ []) (last_read file q.readings) ps p are.1
+      (subst (λ (w : List UserEntry × List ℕ). AllByRecursion (MayBe o w.0 p.entry.op) (w.1 ∷ p.readings)) (λ i. (sym (append_assoc h (q.entry ∷ []) (entries_in ps)) i, last_on file q.readings (readings_in ps) i)) all),
+)
 
 module _ (o : Opening) (h : List UserEntry) (old : DiskState) (disk : IsDisk old) (x : HasRead o h old) where
   -- what was read last is what it reads
