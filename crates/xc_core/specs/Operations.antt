@@ -1,0 +1,66 @@
+-- What a run of the controller does to its journal, operation by operation, as the journal's disk tells by what it read in each.
+use Rattle.std.specs.Prelude.{◌≡◌, ◌⊎◌, ℕ, List, [], ◌∷◌, ◌++◌, Option}
+use Rattle.std.specs.List.{AllByRecursion}
+use Rattle.dxc_disk.specs.Disks.{DiskState, files, last_read}
+use Rattle.dxc_model.specs.declared.op.Op.{Op}
+use Rattle.dxc_model.specs.declared.op.Change.{Change}
+use Rattle.journal_core.specs.Headers.{header}
+use Rattle.journal_core.specs.Makes.{IsFresh}
+use Rattle.journal_core.specs.Opens.{made_head}
+use Rattle.shelf_file.specs.Contents.{Contents}
+use Rattle.xc_core.specs.Journals.{IsOld, IsOldOrDoubted, IsOldOrOneMore}
+use Rattle.xc_core.specs.Reckonings.{Past, ReckonsTo}
+
+-- what the journal is called for
+pub data Task : Type 0 where
+  -- a start on this shelf
+  start : Contents → Task
+  -- the planned change of this operation is journalled
+  change : Op → Task
+  -- the journal is mended, or read anew
+  restart : Task
+
+-- What a file that is read in it stands for: the changes so far, or one more; at a start in a new file it may also be one in which no journal was made yet.
+abbrev pub MayBe : Past → Option Op → Task → List ℕ → Type 0
+MayBe b doubt (start shelf) = λ file. IsOld b file ⊎ IsFresh (header shelf.shape (made_head shelf.equipped)) file
+MayBe b doubt (change op) = IsOldOrOneMore b doubt op
+MayBe b doubt restart = IsOldOrDoubted b doubt
+
+-- An operation: what the journal is called for, the operation that was in doubt when it began, what the disk read after each write and each sync of it, and
+-- the changes that the table took after it, before the next one.
+pub record Operation : Type 0 where
+  pub task : Task
+  pub doubt : Option Op
+  pub readings : List (List ℕ)
+  pub made : List Change
+
+abbrev pub readings_in : List Operation → List (List ℕ)
+readings_in [] = []
+readings_in (x ∷ xs) = x.readings ++ readings_in xs
+
+abbrev pub made_in : List Operation → List Change
+made_in [] = []
+made_in (x ∷ xs) = x.made ++ made_in xs
+
+-- Operations from these changes on, each where the one before ended: in each all that was read, from the file that it began with on, is what it may be.
+abbrev pub AreOperations : Past → List ℕ → List Operation → Past → Type 0
+AreOperations b file [] now = now ≡ b
+AreOperations b file (x ∷ xs) now = AllByRecursion (MayBe b x.doubt x.task) (file ∷ x.readings) × ((next : Past) × ReckonsTo b x.made next × AreOperations next (last_read file x.readings) xs now)
+
+-- where operations begin: what there was after the changes, and what the journal's disk had read by then, which is something
+pub record Outset : Type 0 where
+  pub past : Past
+  pub readings : List (List ℕ)
+
+-- the first is a start
+abbrev pub BeginWithStart : List Operation → Type 0
+BeginWithStart [] = ⊥
+BeginWithStart (x ∷ xs) = (shelf : Contents) × (x.task ≡ start shelf)
+
+-- What the disk has read since then, it read in operations, of which the first is the start, and which made these changes.
+pub record HasRead (from : Outset) (made : List Change) (now : Past) (s : DiskState) : Type 0 where
+  pub operations : List Operation
+  pub begin : BeginWithStart operations
+  pub are : AreOperations from.past (last_read [] from.readings) operations now
+  pub made_is : made_in operations ≡ made
+  pub readings : files s.readings ≡ from.readings ++ readings_in operations
