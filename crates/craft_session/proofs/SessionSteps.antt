@@ -503,7 +503,7 @@ module _ (l : Language Request Moment) (told clock_told : Type 0) (k : LinkState
     }
 
     -- it ended with a read that took nothing
-    pub served_nothing : (j2 : LinkState) (got : Got) (buffer : List ℕ) → Stands l told clock_told k j c d b now false More r [] → IsRead told j j2 got buffer → taken got buffer ≡ [] → Served l told clock_told k j2 c d b now
+    abbrev pub served_nothing : (j2 : LinkState) (got : Got) (buffer : List ℕ) → Stands l told clock_told k j c d b now false More r [] → IsRead told j j2 got buffer → taken got buffer ≡ [] → Served l told clock_told k j2 c d b now
     served_nothing j2 got buffer s read none = record {
       items = s.items;
       rest = s.rest;

@@ -23,7 +23,7 @@ use Rattle.craft_session.specs.Happenings.{Request}
 use Rattle.craft_session.specs.Meanings.{language_for}
 use Rattle.craft_session.specs.Seats.{IsSameSeat, IsSameUserSeat, SeatAt, UserSeatAt}
 use Rattle.craft_session.specs.Runs.{RunsOn, Walk}
-use Rattle.craft_session.specs.Sessions.{Beginning, IsAt, Stands, Writes, walk_after}
+use Rattle.craft_session.specs.Sessions.{Beginning, Goes, IsAt, Stands, Writes, walk_after}
 use Rattle.craft_session.specs.Stamps.{AreStamped, Stamp, stamp_at}
 use Rattle.craft_session.specs.Timely.{GoesOn, InHand, IsTimely, IsWrittenBehind, Reached, SeesOn, Start, Telling, reached, starting}
 use Rattle.craft_session.proofs.Walking.{run_more}
@@ -178,6 +178,26 @@ module _ (t : Telling) (x y : DeskAt) (h : InHand) (reader : Reader) (ahead : Li
   moved_goes shelf_is seat_is users_are goes first k c b at stands =
       let there = subst (λ (z : Contents). (k : LinkState) (c : List Moment) (b : Beginning) → IsAt b x.seat x.users → (s : Stands (language_for first z) t.told t.clock_told k x.link c x.coming b (now_at x) h.due h.kind h.reader h.ahead) → GoesInTime t x y (language_for first z) (starting k c b) s.past.walk how reader ahead) shelf_is (goes first) in
       there k c b (seat_is.0 ∙ at.0, seat_is.1 ∙ at.1, users_are.0 ∙ at.2, users_are.1 ∙ at.3) stands
+
+-- a call behind a read, in a session that had stood so before it
+module _ (t : Telling) (x y : DeskAt) (h : InHand) (reader : Reader) (ahead : List ℕ) (how : Result Progress Stopped) (shelf : Contents) (seat : SeatAt) (users : UserSeatAt) (user : SessionUser) (k j : LinkState) (c : List Moment) where
+  abbrev l : Language Request Moment
+  l = language_for user shelf
+
+  pub record ReadOn (b : Beginning) (after : Result Progress Stopped) : Type 0 where
+    pub goes : Goes l t.told t.clock_told k y.link c y.coming b (now_at y) after false reader ahead
+    pub timely : IsTimely l t (starting k c b) k (reached_at y) (walk_after l t.told t.clock_told k y.link c y.coming b (now_at y) after false reader ahead goes)
+
+  pub read_goes : x.shelf ≡ shelf → IsSameSeat seat x.seat → IsSameUserSeat users x.users → GoesTo t x y h reader ahead how → (got : Got) (buffer : List ℕ) → IsRead t.told j x.link got buffer → (after : Result Progress Stopped) → how ≡ after
+      → (b : Beginning) → IsAt b seat users → (v : Walk Request Moment) → IsTimely l t (starting k c b) k (reached j.written x.seat.seen x.users.seen) v → GoesOn t.told b (reached_at x) (reached_at y)
+      → (s : Stands l t.told t.clock_told k x.link c x.coming b (now_at x) h.due h.kind h.reader h.ahead) → RunsOn l b.place b.opening.first.fold.table v s.past.walk → ReadOn b after
+  read_goes shelf_is seat_is users_are call got buffer read after is b at v so_far on s ran =
+      let next = subst (λ (z : Result Progress Stopped). GoesInTime t x y l (starting k c b) s.past.walk z reader ahead) is (moved_goes t x y h reader ahead how shelf seat users shelf_is seat_is users_are call user k c b at s) in
+      let end = walk_after l t.told t.clock_told k y.link c y.coming b (now_at y) after false reader ahead next.goes in
+      record {
+        goes = next.goes;
+        timely = timely_read l t (starting k c b) k j x.seat.seen x.users.seen v so_far (reached_at y) end (run_more l b.place b.opening.first.fold.table v s.past.walk end ran next.ran_on) x.link got buffer read next.timely on;
+      }
 
 -- messages after one another, of which the first was begun so
 pub stamped_more : (stamped : Stamp → Type 0) (s : Stamp) (seat : SeatAt) (users : UserSeatAt) (j m : LinkState) (c d : List Moment) → seat ≡ s.seat → users ≡ s.users → AreStamped stamped s j c → AreStamped stamped (stamp_at c j seat users) m d → AreStamped stamped s m d
