@@ -23,7 +23,7 @@ use Rattle.xc_core.specs.States.{began}
 use Rattle.craft_session.specs.declared.attending.Attending.{Attending}
 use Rattle.craft_session.specs.Acting.{Acts, Stops}
 use Rattle.craft_session.specs.Asks.{Language, Reply}
-use Rattle.craft_session.specs.Doing.{AreDated, Does, Doing, HearsOn, LooksOn, ServesOn, begins_doing, does_look, does_nothing, does_unit, done_on, table_on, users_on, users_pass, using}
+use Rattle.craft_session.specs.Doing.{AreDated, Does, HearsOn, LooksOn, ServesOn, begins_doing, does_look, does_nothing, does_unit, done_on, table_on, users_on, users_pass, using}
 use Rattle.craft_session.specs.Happenings.{Request}
 use Rattle.craft_session.specs.Hearing.{HeardBehind, Hears}
 use Rattle.craft_session.specs.Notices.{AreReported, notices}

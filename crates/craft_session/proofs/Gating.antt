@@ -8,9 +8,8 @@ use Rattle.dxc_outside.specs.declared.stopped.Stopped.{Stopped}
 use Rattle.dxc_outside.specs.Stops.{the_stop}
 use Rattle.dxc_model.specs.declared.cause.Cause.{Cause}
 use Rattle.dxc_model.specs.declared.cause.Cause.TheVariants.{DiskFault}
-use Rattle.roll_engine.specs.declared.answer.Advance.{Advance}
-use Rattle.roll_engine.specs.declared.answer.Advance.TheVariants as advance
-use Rattle.roll_engine.specs.Answers.{asked_at}
+use Rattle.roll_engine.specs.declared.halt.Halt.TheVariants as halt
+use Rattle.roll_engine.specs.Answers.{Answer, asked_at}
 use Rattle.dxc_num.specs.declared.register.RegWrite.{RegWrite}
 use Rattle.xc_core.specs.declared.resuming.Reread.TheVariants as reread
 use Rattle.xc_core.specs.Askings.{RereadAsked}
@@ -39,22 +38,22 @@ module _ {X : Type 0} (asked : X → X → List GatePlace → Type 0) (on : (a b
         let sum : (length all - length before) + (length before - length left) ≡ length all - length left = omega (arith, n, within) in
         same_as a c _ _ (replicate-append-replicate (length all - length before) (length before - length left) Register ∙ ap (λ (k : ℕ). replicate k Register) sum) (on a b c _ _ so_far more)
 
-    pub frame_on : (how : Result Advance Stopped) (f : ℕ) → how ≡ Ok (advance.InFrame f) → asked b c (asked_at before left how) → asked a c (replicate (length all - length left) Register)
-    frame_on how f is more = made_on (subst (λ (x : Result Advance Stopped). asked b c (asked_at before left x)) is more)
+    pub frame_on : (how : Answer) (f : ℕ) → how ≡ Err (halt.InFrame f) → asked b c (asked_at before left how) → asked a c (replicate (length all - length left) Register)
+    frame_on how f is more = made_on (subst (λ (x : Answer). asked b c (asked_at before left x)) is more)
 
     -- all were made, and the gate was asked at the end
-    pub done_on : (d : X) (how : Result Advance Stopped) → how ≡ Ok advance.Done → left ≡ [] → asked b c (asked_at before left how) → asked c d (Finish ∷ []) → asked a d (asked_for (length all))
+    pub done_on : (d : X) (how : Answer) → how ≡ Ok tt → left ≡ [] → asked b c (asked_at before left how) → asked c d (Finish ∷ []) → asked a d (asked_for (length all))
     done_on d how is none more end =
-        let made = made_on (subst (λ (x : Result Advance Stopped). asked b c (asked_at before left x)) is more) in
+        let made = made_on (subst (λ (x : Answer). asked b c (asked_at before left x)) is more) in
         let zero : length left ≡ 0 = ap length none in
         let whole : length all - length left ≡ length all = omega (arith, zero) in
         on a c d _ _ (same_as a c _ _ (ap (λ (k : ℕ). replicate k Register) whole) made) end
 
     -- the gate stopped before a write
-    pub stopped_on : (how : Result Advance Stopped) → how ≡ Err the_stop → (left ≡ [] → ⊥) → asked b c (asked_at before left how) → AskedToStop (asked a c) (length all)
+    pub stopped_on : (how : Answer) → how ≡ Err halt.Stopped → (left ≡ [] → ⊥) → asked b c (asked_at before left how) → AskedToStop (asked a c) (length all)
     stopped_on how is some more =
         let n = longer in
-        let here : asked b c (replicate ((length before - length left) + 1) Register) = subst (λ (x : Result Advance Stopped). asked b c (asked_at before left x)) is more in
+        let here : asked b c (replicate ((length before - length left) + 1) Register) = subst (λ (x : Answer). asked b c (asked_at before left x)) is more in
         let less : 0 < length left = not_none left some in
         let sum : (length all - length before) + ((length before - length left) + 1) ≡ (length all - length left) + 1 = omega (arith, n, within) in
         inl (

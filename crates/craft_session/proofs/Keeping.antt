@@ -1,5 +1,5 @@
 -- A place's pass, and its seat, over turns.
-use Rattle.std.proofs.Common.{◌≡◌, ℕ, Option, Result, Ok, Err, List, [], ◌++◌, append-nil, length, refl, sym, subst}
+use Rattle.std.proofs.Common.{◌≡◌, ℕ, Option, Result, Ok, Err, List, [], append-nil, length, refl, sym, subst}
 use base.Stored.{Gv}
 use Rattle.turnstile.specs.Dating.{newest}
 use Rattle.turnstile.specs.Passing.{Token, TurnstileView}

@@ -17,7 +17,7 @@ use dxc_disk::Disk;
 use dxc_model::{Cause, Op};
 use dxc_outside::{Gate, GatePlace, Stopped};
 use fabric_words::Fabric;
-use roll_engine::{Advance, Rolling};
+use roll_engine::{Halt, Rolling};
 use std::snapshot::Snapshot;
 use std::sync::Wait;
 use turnstile::{Pass, Rest, Turnstile};
@@ -55,9 +55,12 @@ pub fn roll<D: Disk, G: Gate, R: Wait>(
 {
     let mut rest = Rest::new();
     for _ in rt.forever() {
-        match drive(p, fabric, rolling, gate)? {
-            Advance::Done => return gate.pass(GatePlace::Finish),
-            Advance::InFrame(frame) => rest.again(frame, rt),
+        match drive(p, fabric, rolling, gate) {
+            Ok(()) => return gate.pass(GatePlace::Finish),
+            Err(halt) => match halt {
+                Halt::InFrame(frame) => rest.again(frame, rt),
+                Halt::Stopped => return Err(Stopped),
+            },
         }
     }
     unreachable!()

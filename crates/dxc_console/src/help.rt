@@ -67,7 +67,7 @@ Status: 0 done, 2 words not understood, 3 shelf file refused, 4 journal refused,
 ";
 
 // CHANGELOG.md tells what each version changed.
-pub const VERSION: &str = "1.7.1";
+pub const VERSION: &str = "1.8.0";
 
 /// Tells what the one word `--help` or `--version` asks for, and gives the status that the program then ends with: Done where all of it
 /// was told, Link where a part couldn't be. None: the words ask for neither, and nothing is told.

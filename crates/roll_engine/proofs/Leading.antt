@@ -7,7 +7,7 @@ use Rattle.paull_matrix.specs.Colourings.{Colouring}
 use Rattle.fabric_core.specs.declared.size.Size.{Size}
 use Rattle.fabric_core.specs.declared.mover.Mover.{Mover}
 use Rattle.fabric_words.specs.Seats.{FabricId}
-use Rattle.roll_engine.specs.declared.answer.Advance.TheVariants.{Done, InFrame}
+use Rattle.roll_engine.specs.declared.halt.Halt.TheVariants.{InFrame, Stopped}
 use Rattle.roll_engine.specs.declared.rolling.Behind.{Behind}
 use Rattle.roll_engine.specs.Rollings.{RollingAt, rest_of}
 use Rattle.roll_engine.specs.Courses.{Course, Goes, IsReady, course_of, course_after, gone}
@@ -101,10 +101,10 @@ some_more [] ys some_write e = absurd (some_write refl)
 some_more (x ∷ xs) ys some_write e = let h : x ∷ (xs ++ ys) ≡ [] = e in cc
 
 -- what an answer of `advance` says of all that was left and is left
-pub answer_on : (z : Size) (c : Colouring) (first old new : RollingAt) (m a b : Mover) (answer : Answer) → Advances z (left_of c m first) (left_of c a old) m a → GoesOn z old new a b → answer ≢ Ok Done
+pub answer_on : (z : Size) (c : Colouring) (first old new : RollingAt) (m a b : Mover) (answer : Answer) → Advances z (left_of c m first) (left_of c a old) m a → GoesOn z old new a b → answer ≢ Ok tt
     → AnswerIs z (rest_of old) (rest_of new) a b answer → AnswerIs z (left_of c m first) (left_of c b new) m b answer
-answer_on z c first old new m a b (Ok Done) way goes other h = absurd (other refl)
-answer_on z c first old new m a b (Ok (InFrame f)) way goes other h =
+answer_on z c first old new m a b (Ok x) way goes other h = absurd (other refl)
+answer_on z c first old new m a b (Err (InFrame f)) way goes other h =
     let behind : List RegWrite = left_behind c (legs_then b new) new.behind in record {
       leg = h.leg;
       old = h.old;
@@ -115,7 +115,7 @@ answer_on z c first old new m a b (Ok (InFrame f)) way goes other h =
       advances = advances_on z (left_of c m first) (left_of c a old) (left_of c b new) m a h.reached way (all_advances z c old new a b h.reached goes h.advances);
       seen = h.seen;
     }
-answer_on z c first old new m a b (Err e) way goes other h = some_more (rest_of new) (left_behind c (legs_then b new) new.behind) h
+answer_on z c first old new m a b (Err Stopped) way goes other h = some_more (rest_of new) (left_behind c (legs_then b new) new.behind) h
 
 -- a call of `advance` in the loop
 pub record IsOnWay (z : Size) (c : Colouring) (first now : RollingAt) (m m' : Mover) : Type 0 where

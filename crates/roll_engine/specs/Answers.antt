@@ -7,19 +7,16 @@ use Rattle.dxc_num.specs.declared.register.WriteKind.TheVariants.{ClearMid}
 use Rattle.roll_plan.specs.Works.{write}
 use Rattle.dxc_outside.specs.declared.gate.GatePlace.{GatePlace}
 use Rattle.dxc_outside.specs.declared.gate.GatePlace.TheVariants.{Register}
-use Rattle.dxc_outside.specs.declared.stopped.Stopped.{Stopped}
 use Rattle.fabric_core.specs.declared.size.Size.{Size}
 use Rattle.fabric_core.specs.declared.mover.Mover.{Mover}
 use Rattle.fabric_core.specs.declared.phase.Phase.TheVariants.{Old}
 use Rattle.fabric_core.specs.Passing.{Passed, first_seen}
 use Rattle.fabric_core.specs.State.{looks_of}
 use Rattle.fabric_core.specs.Moving.{looked}
-use Rattle.roll_engine.specs.declared.answer.Advance.{Advance}
-use Rattle.roll_engine.specs.declared.answer.Advance.TheVariants as answer
+use Rattle.roll_engine.specs.declared.halt.Halt.{Halt}
+use Rattle.roll_engine.specs.declared.halt.Halt.TheVariants as halt
 use Rattle.roll_engine.specs.Courses.{IsOld}
 use Rattle.roll_engine.specs.Rollings.{RollingAt, rest_of}
-use Rattle.roll_engine.specs.declared.answer.Step.{Step}
-use Rattle.roll_engine.specs.declared.answer.Step.TheVariants as step
 use Rattle.roll_engine.specs.Writes.{Looks, Makes, Runs}
 
 -- of the writes that were left the first ones are made, in order, and the others are left
@@ -58,15 +55,15 @@ pub record IsInFrame (z : Size) (before left : List RegWrite) (m m' : Mover) (f 
   pub advances : Advances z before left m reached
   pub seen : IsSeen z reached m' f
 
--- what a call answers: how far it came, or that the gate stopped before the next write, which isn't made
+-- what a call answers: that the writes are made, or what stood in the way of the next one, which isn't made
 abbrev pub Answer : Type 0
-Answer = Result Advance Stopped
+Answer = Result (Unit {0}) Halt
 
 -- what an answer says of the writes that were left before and are left now
 abbrev pub AnswerIs : Size → List RegWrite → List RegWrite → Mover → Mover → Answer → Type 0
-AnswerIs z before left m m' (Ok answer.Done) = left ≡ []
-AnswerIs z before left m m' (Ok (answer.InFrame f)) = IsInFrame z before left m m' f
-AnswerIs z before left m m' (Err e) = left ≢ []
+AnswerIs z before left m m' (Ok x) = left ≡ []
+AnswerIs z before left m m' (Err (halt.InFrame f)) = IsInFrame z before left m m' f
+AnswerIs z before left m m' (Err halt.Stopped) = left ≢ []
 
 -- the writes that are left to a mover
 pub record Ahead : Type 0 where
@@ -81,22 +78,22 @@ abbrev pub IsAnswer : Size → (old new : Ahead) → Answer → Type 0
 IsAnswer z old new a = AnswerIs z old.writes new.writes old.mover new.mover a
 
 -- what came of one write
-abbrev pub StepIs : Size → RegWrite → Mover → Mover → Result Step Stopped → Type 0
-StepIs z w m m' (Ok step.Made) = (fs : List (ℕ × ℕ)) × (a : Mover) × Looks z fs m a × Makes z w a m'
-StepIs z w m m' (Ok (step.InFrame f)) = (w.kind ≡ ClearMid) × IsOld m.phase × IsSeen z m m' f
-StepIs z w m m' (Err e) = (fs : List (ℕ × ℕ)) × Looks z fs m m'
+abbrev pub StepIs : Size → RegWrite → Mover → Mover → Answer → Type 0
+StepIs z w m m' (Ok x) = (fs : List (ℕ × ℕ)) × (a : Mover) × Looks z fs m a × Makes z w a m'
+StepIs z w m m' (Err (halt.InFrame f)) = (w.kind ≡ ClearMid) × IsOld m.phase × IsSeen z m m' f
+StepIs z w m m' (Err halt.Stopped) = (fs : List (ℕ × ℕ)) × Looks z fs m m'
 
 -- where the gate was asked at one write: before it, unless a frame stood in its way
-abbrev pub asked_at_step : Result Step Stopped → List GatePlace
-asked_at_step (Ok step.Made) = Register ∷ []
-asked_at_step (Ok (step.InFrame f)) = []
-asked_at_step (Err e) = Register ∷ []
+abbrev pub asked_at_step : Answer → List GatePlace
+asked_at_step (Ok x) = Register ∷ []
+asked_at_step (Err (halt.InFrame f)) = []
+asked_at_step (Err halt.Stopped) = Register ∷ []
 
 -- how often the gate was asked, where so many writes were made: once before each of them, and once more where it stopped
 abbrev pub askings : ℕ → Answer → ℕ
-askings n (Ok answer.Done) = n
-askings n (Ok (answer.InFrame f)) = n
-askings n (Err e) = n + 1
+askings n (Ok x) = n
+askings n (Err (halt.InFrame f)) = n
+askings n (Err halt.Stopped) = n + 1
 
 -- where the gate was asked in a call, of which the writes that were left before and are left now are told
 abbrev pub asked_at : List RegWrite → List RegWrite → Answer → List GatePlace

@@ -1,16 +1,15 @@
 //! All legs of a matrix, joined one by one on a fabric on which first all others are parted.
 ghost use Rattle.std.specs.Prelude.{◌≡◌, ◌≢◌, ◌++◌, ℕ, Ok, Err};
 ghost use Rattle.dxc_causes.specs.Stops.{RoseOnlyFor};
-ghost use Rattle.dxc_outside.specs.Stops.{the_stop};
 ghost use Rattle.roll_engine.specs.Stages.{IsAtRestOn};
 ghost use Rattle.roll_engine.specs.Answers.{Advances, IsAnswer, ahead_of, asked_at};
 ghost use Rattle.roll_engine.specs.Cold.{IsCold, IsColdAt, left_of};
 ghost use Rattle.roll_engine.specs.Leading.{IsColdLeading};
 
-use crate::answer::Advance;
+use crate::halt::Halt;
 use crate::rolling::Rolling;
 use crate::run::advance;
-use dxc_outside::{Gate, Stopped};
+use dxc_outside::Gate;
 use fabric_words::{Fabric, MoverSeat};
 use paull_matrix::Matrix;
 
@@ -23,7 +22,7 @@ pub fn advance_cold<G: Gate>(
     mover: &mut MoverSeat,
     rolling: &mut Rolling,
     gate: &mut G,
-) -> Result<Advance, Stopped>
+) -> Result<(), Halt>
     requires own { mover.old.fabric ≡ fabric.now }
     requires leading { IsColdLeading mover.old.fabric.size matrix.now rolling.old mover.old.mover }
     ensures fabric { mover.new.fabric ≡ mover.old.fabric }
@@ -37,24 +36,22 @@ pub fn advance_cold<G: Gate>(
     ensures answer { IsAnswer mover.old.fabric.size
         (ahead_of mover.old.mover (left_of matrix.now mover.old.mover rolling.old))
         (ahead_of mover.new.mover (left_of matrix.now mover.new.mover rolling.new)) result }
-    ensures done { result ≡ Ok Advance.Done
+    ensures done { result ≡ Ok tt
         → IsAtRestOn mover.old.fabric.size matrix.now mover.new.mover }
     ensures cold { IsColdAt mover.old.fabric.size matrix.now rolling.old mover.old.mover
         → IsColdAt mover.old.fabric.size matrix.now rolling.new mover.new.mover }
     ensures joins { IsColdAt mover.old.fabric.size matrix.now rolling.old mover.old.mover → (f : ℕ)
-        → result ≢ Ok (Advance.InFrame f) }
-    ensures stopped { RoseOnlyFor (G.stops gate.old) (G.stops gate.new) (result ≡ Err the_stop) }
+        → result ≢ Err (Halt.InFrame f) }
+    ensures stopped { RoseOnlyFor (G.stops gate.old) (G.stops gate.new)
+        (result ≡ Err Halt.Stopped) }
     ensures asked { G.asked gate.old gate.new
         (asked_at (left_of matrix.now mover.old.mover rolling.old)
         (left_of matrix.now mover.new.mover rolling.new) result) }
 {
     loop {
-        match advance(fabric, mover, rolling, gate)? {
-            Advance::Done => {}
-            halted => return Ok(halted),
-        }
+        advance(fabric, mover, rolling, gate)?;
         if !rolling.take_next(matrix, fabric, mover) {
-            return Ok(Advance::Done);
+            return Ok(());
         }
     }
 }

@@ -1,8 +1,8 @@
 //! Makes the register writes of a work, in order, beside running frames.
 #![tactic(auto)]
 
-mod answer;
 pub mod cold;
+mod halt;
 pub mod laws;
 mod looks;
 mod make;
@@ -10,5 +10,5 @@ mod rolling;
 pub mod run;
 mod several;
 
-pub use answer::Advance;
+pub use halt::Halt;
 pub use rolling::{Behind, Rolling};

@@ -2,7 +2,6 @@
 ghost use Rattle.std.specs.Prelude.{◌≡◌, [], ◌∷◌, ℕ, List, IfNone, IfSome, Err};
 ghost use Rattle.dxc_causes.specs.Stops.{RoseOnlyFor};
 ghost use Rattle.dxc_num.specs.declared.register.WriteKind.TheVariants.{ClearMid};
-ghost use Rattle.dxc_outside.specs.Stops.{the_stop};
 ghost use Rattle.fabric_core.specs.State.{IsSize};
 ghost use Rattle.fabric_core.specs.Owned.{IsMoverRuled};
 ghost use Rattle.fabric_core.specs.Moving.{AllPassed};
@@ -11,10 +10,10 @@ ghost use Rattle.roll_engine.specs.Answers.{IsSeen, StepIs, asked_at_step};
 ghost use Rattle.roll_engine.specs.Courses.{IsOld, IsReady};
 ghost use Rattle.roll_engine.specs.Writes.{Looks, Makes};
 
-use crate::answer::Step;
+use crate::halt::Halt;
 use crate::looks::look_all;
 use dxc_num::{RegWrite, WriteKind};
-use dxc_outside::{Gate, Stopped};
+use dxc_outside::Gate;
 use fabric_words::{Fabric, MoverSeat, Permit, Phase};
 
 // Makes a write, which may be made.
@@ -65,18 +64,19 @@ pub(crate) fn step_on<G: Gate>(
     mover: &mut MoverSeat,
     write: RegWrite,
     gate: &mut G,
-) -> Result<Step, Stopped>
+) -> Result<(), Halt>
     requires own { mover.old.fabric ≡ fabric.now }
     requires ready { IsReady mover.old.fabric.size (write ∷ []) mover.old.mover }
     ensures fabric { mover.new.fabric ≡ mover.old.fabric }
     ensures step { StepIs mover.old.fabric.size write mover.old.mover mover.new.mover result }
-    ensures stopped { RoseOnlyFor (G.stops gate.old) (G.stops gate.new) (result ≡ Err the_stop) }
+    ensures stopped { RoseOnlyFor (G.stops gate.old) (G.stops gate.new)
+        (result ≡ Err Halt.Stopped) }
     ensures asked { G.asked gate.old gate.new (asked_at_step result) }
 {
     if let Some(frame) = clear_way(fabric, mover, write.kind) {
-        return Ok(Step::InFrame(frame));
+        return Err(Halt::InFrame(frame));
     }
     let permit = mover.ask(gate)?;
     make(fabric, mover, write, &permit);
-    Ok(Step::Made)
+    Ok(())
 }

@@ -1,7 +1,6 @@
 //! The writes of a work, as far as frames and the gate let them.
 ghost use Rattle.std.specs.Prelude.{◌≡◌, ◌+◌, ◌++◌, ◌<◌, [], Ok, Err, Some, slice_get};
 ghost use Rattle.dxc_causes.specs.Stops.{RoseOnlyFor};
-ghost use Rattle.dxc_outside.specs.Stops.{the_stop};
 ghost use Rattle.roll_plan.specs.Works.{writes_of};
 ghost use Rattle.roll_plan.specs.Nexts.{IsNext};
 ghost use Rattle.roll_engine.specs.Courses.{IsReady};
@@ -9,11 +8,11 @@ ghost use Rattle.roll_engine.specs.Rollings.{at_step, rest_of};
 ghost use Rattle.roll_engine.specs.Answers.{GoesOn, IsAnswer, ahead_of, asked_at};
 ghost use Rattle.roll_engine.specs.Walks.{WalksOn, walker_at};
 
-use crate::answer::Advance;
+use crate::halt::Halt;
 use crate::rolling::Rolling;
 use crate::several::{move_on, three_on, write_on};
 use dxc_num::RegWrite;
-use dxc_outside::{Gate, Stopped};
+use dxc_outside::Gate;
 use fabric_words::{Fabric, MoverSeat};
 use roll_plan::{Next, next_at_step, writes_of_join, writes_of_part};
 
@@ -27,7 +26,7 @@ fn one_on<G: Gate>(
     made: usize,
     write: RegWrite,
     gate: &mut G,
-) -> (Result<Advance, Stopped>, usize)
+) -> (Result<(), Halt>, usize)
     requires own { mover.old.fabric ≡ fabric.now }
     requires few { made < 951 }
     requires next { slice_get (writes_of rolling.now.work) made ≡ Some write }
@@ -36,14 +35,14 @@ fn one_on<G: Gate>(
     ensures walks { WalksOn G.Gate fabric.now.size
         (walker_at (at_step made rolling.now) mover.old.mover gate.old)
         (walker_at (at_step result.1 rolling.now) mover.new.mover gate.new) result.0 }
-    ensures one { result.0 ≡ Ok Advance.Done → result.1 ≡ made + 1 }
+    ensures one { result.0 ≡ Ok tt → result.1 ≡ made + 1 }
 {
     let mut count = made;
     let answer = write_on(fabric, mover, rolling, &mut count, write, gate);
     (answer, count)
 }
 
-// Makes what comes next of the work in hand. Done: it is made.
+// Makes what comes next of the work in hand. Ok: it is made.
 #[inline(always)]
 fn next_on<G: Gate>(
     fabric: &Fabric,
@@ -52,7 +51,7 @@ fn next_on<G: Gate>(
     made: &mut usize,
     next: Next,
     gate: &mut G,
-) -> Result<Advance, Stopped>
+) -> Result<(), Halt>
     requires own { mover.old.fabric ≡ fabric.now }
     requires few { made.old < 946 }
     requires next { IsNext (writes_of rolling.now.work) made.old (Some next) }
@@ -62,7 +61,7 @@ fn next_on<G: Gate>(
     ensures walks { WalksOn G.Gate fabric.now.size
         (walker_at (at_step made.old rolling.now) mover.old.mover gate.old)
         (walker_at (at_step made.new rolling.now) mover.new.mover gate.new) result }
-    ensures more { result ≡ Ok Advance.Done → made.old < made.new }
+    ensures more { result ≡ Ok tt → made.old < made.new }
 {
     match next {
         Next::All(step) => move_on(fabric, mover, rolling, made, step, gate),
@@ -94,7 +93,7 @@ fn next_on<G: Gate>(
     }
 }
 
-// Makes the writes of the first op's moves, where no write is made yet, without seeking the place of each. Done: nothing stood in the way.
+// Makes the writes of the first op's moves, where no write is made yet, without seeking the place of each. Ok: nothing stood in the way.
 #[inline(always)]
 fn moves_on<G: Gate>(
     fabric: &Fabric,
@@ -102,7 +101,7 @@ fn moves_on<G: Gate>(
     rolling: &Rolling,
     made: &mut usize,
     gate: &mut G,
-) -> Result<Advance, Stopped>
+) -> Result<(), Halt>
     requires own { mover.old.fabric ≡ fabric.now }
     requires ready { IsReady fabric.now.size (rest_of (at_step made.old rolling.now))
         mover.old.mover }
@@ -112,18 +111,15 @@ fn moves_on<G: Gate>(
         (walker_at (at_step made.new rolling.now) mover.new.mover gate.new) result }
 {
     if *made != 0 {
-        return Ok(Advance::Done);
+        return Ok(());
     }
     for step in rolling.first_moves() {
-        match move_on(fabric, mover, rolling, made, *step, gate)? {
-            Advance::Done => {}
-            halted => return Ok(halted),
-        }
+        move_on(fabric, mover, rolling, made, *step, gate)?;
     }
-    Ok(Advance::Done)
+    Ok(())
 }
 
-// Makes the writes that are left, and counts them. Done: all are made.
+// Makes the writes that are left, and counts them. Ok: all are made.
 #[inline(always)]
 fn writes_on<G: Gate>(
     fabric: &Fabric,
@@ -131,7 +127,7 @@ fn writes_on<G: Gate>(
     rolling: &Rolling,
     made: &mut usize,
     gate: &mut G,
-) -> Result<Advance, Stopped>
+) -> Result<(), Halt>
     requires own { mover.old.fabric ≡ fabric.now }
     requires ready { IsReady fabric.now.size (rest_of (at_step made.old rolling.now))
         mover.old.mover }
@@ -139,19 +135,13 @@ fn writes_on<G: Gate>(
     ensures walks { WalksOn G.Gate fabric.now.size
         (walker_at (at_step made.old rolling.now) mover.old.mover gate.old)
         (walker_at (at_step made.new rolling.now) mover.new.mover gate.new) result }
-    ensures all { result ≡ Ok Advance.Done → rest_of (at_step made.new rolling.now) ≡ [] }
+    ensures all { result ≡ Ok tt → rest_of (at_step made.new rolling.now) ≡ [] }
 {
-    match moves_on(fabric, mover, rolling, made, gate)? {
-        Advance::Done => {}
-        halted => return Ok(halted),
-    }
+    moves_on(fabric, mover, rolling, made, gate)?;
     while let Some(next) = next_at_step(rolling.work(), *made) {
-        match next_on(fabric, mover, rolling, made, next, gate)? {
-            Advance::Done => {}
-            halted => return Ok(halted),
-        }
+        next_on(fabric, mover, rolling, made, next, gate)?;
     }
-    Ok(Advance::Done)
+    Ok(())
 }
 
 /// Makes the writes of the work in hand that are left, in order, and looks at the workers before each that clears an old MID word. It
@@ -161,7 +151,7 @@ pub fn advance<G: Gate>(
     mover: &mut MoverSeat,
     rolling: &mut Rolling,
     gate: &mut G,
-) -> Result<Advance, Stopped>
+) -> Result<(), Halt>
     requires own { mover.old.fabric ≡ fabric.now }
     requires ready { IsReady mover.old.fabric.size (rest_of rolling.old) mover.old.mover }
     ensures fabric { mover.new.fabric ≡ mover.old.fabric }
@@ -173,7 +163,8 @@ pub fn advance<G: Gate>(
         (ahead_of mover.new.mover (rest_of rolling.new)) result }
     ensures written { mover.new.mover.written ++ rest_of rolling.new
         ≡ mover.old.mover.written ++ rest_of rolling.old }
-    ensures stopped { RoseOnlyFor (G.stops gate.old) (G.stops gate.new) (result ≡ Err the_stop) }
+    ensures stopped { RoseOnlyFor (G.stops gate.old) (G.stops gate.new)
+        (result ≡ Err Halt.Stopped) }
     ensures asked { G.asked gate.old gate.new
         (asked_at (rest_of rolling.old) (rest_of rolling.new) result) }
 {

@@ -1,7 +1,6 @@
 -- A place that rests at the users does so after each of its sessions, and after all of them nobody has the keeper.
-use Rattle.std.proofs.Common.{◌≡◌, ◌≢◌, ◌<◌, ℕ, List, [], ◌∷◌, ◌++◌, Option, Some, None, Box, refl, sym, ◌∙◌, ap, subst}
+use Rattle.std.proofs.Common.{◌≡◌, ◌<◌, ℕ, List, [], ◌∷◌, Option, Some, None, Box, refl, sym, ◌∙◌, subst}
 use Rattle.std.specs.declared.alloc.Global.{Global}
-use base.Stored.{Gv}
 use Rattle.turnstile.specs.Laws.{HasSeen}
 use Rattle.turnstile.specs.Turning.{Each}
 use Rattle.dxc_disk.specs.Disks.{DiskState}
@@ -13,7 +12,7 @@ use Rattle.user_admin.specs.declared.shared.SharedUsers.{SharedUsers}
 use Rattle.user_admin.specs.declared.state.UserState.{UserState}
 use Rattle.user_admin.specs.Coding.{mark_coded}
 use Rattle.user_admin.specs.Histories.{Opening}
-use Rattle.user_admin.specs.Marks.{entries_of, holder, holder_after, holder_by, place_of}
+use Rattle.user_admin.specs.Marks.{entries_of, holder, holder_by, place_of}
 use Rattle.user_admin.specs.Resting.{Rests, SawRest}
 use Rattle.user_admin.specs.Shared.{KeeperIs, SharedFor}
 use Rattle.user_admin.proofs.Resting.{rests_behind}

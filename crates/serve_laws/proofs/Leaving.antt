@@ -1,5 +1,5 @@
 -- What stands for a history where the Provisioner is home.
-use Rattle.std.proofs.Common.{◌≡◌, ◌⊎◌, ◌∙◌, List, Option, Some, None, inl, inr, refl, sym}
+use Rattle.std.proofs.Common.{◌≡◌, ◌⊎◌, ◌∙◌, List, Some, None, inl, inr, refl, sym}
 use Rattle.dxc_disk.specs.Disks.{DiskState, Leaves}
 use Rattle.dxc_model.specs.declared.entry.Entry.{Entry}
 use Rattle.dxc_model.specs.Histories.{changes_of, holder}
@@ -16,7 +16,7 @@ use Rattle.xc_core.specs.Restarts.{IsHalted}
 use Rattle.xc_core.specs.States.{HomeIs, IsReadyOrHalted, Opening, StandsFor}
 use Rattle.xc_core.proofs.Journalling.{home_images}
 use Rattle.xc_core.proofs.Rereading.{halted_images}
-use Rattle.serve_laws.specs.Copies.{IsBroughtHome, LeavesChanges, StandsForChanges}
+use Rattle.serve_laws.specs.Copies.{IsBroughtHome, LeavesChanges}
 
 module _ {D : Type 0} (told : Type 0) (state : D → DiskState) (synced : SyncedAreMirrored told state) (adopted : StandbysAreAdopted told state) (since : StandbysStandSince told state) where
   images_by : (b : Past) (h : List Entry) (p : Provisioner D) → IsReadyOrHalted told state b h p → told → Leaves (state p.journal.0) (IsOldOrDoubted b p.doubt)

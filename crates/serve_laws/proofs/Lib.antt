@@ -1,5 +1,6 @@
 pub mod Resting
 pub mod Timing
+pub mod Coming
 pub mod Serving
 pub mod Placing
 pub mod Ordered

@@ -1,11 +1,10 @@
 -- The frames that workers carried, beside a state of their fabric.
-use Rattle.std.proofs.Common.{◌≡◌, ◌<◌, ◌+◌, ℕ, zero, suc, List, [], ◌∷◌, ◌++◌, length, refl, sym, ◌∙◌, ap, subst, append_assoc}
+use Rattle.std.proofs.Common.{◌≡◌, ◌+◌, ℕ, zero, suc, List, [], ◌∷◌, ◌++◌, sym, ◌∙◌, ap, subst, append_assoc}
 use Rattle.std.specs.Arc.{arc_value}
 use mathlib.Core.Option.{some}
 use lib.ListN.{get_elem?}
 use Rattle.atomic_table.specs.Table.{State}
 use Rattle.crossbeam_utils.specs.Padded.{padded_value}
-use Rattle.dxc_num.specs.declared.port.Port.{Port}
 use Rattle.dxc_outside.specs.declared.gate.Gate.{Ghosts as GateOf}
 use Rattle.dxc_outside.specs.declared.lines.Lines.{Ghosts as LinesOf}
 use Rattle.fabric_core.specs.declared.size.Size.{Size}
@@ -24,7 +23,6 @@ use Rattle.fabric_words.proofs.Ties.{same_size}
 use Rattle.frame_worker.specs.Laws.{AreOwnBytes, Carried}
 use Rattle.frame_worker.specs.Lines.{AreFrames}
 use Rattle.dxc_jobs.specs.declared.frames.FrameJob.{FrameJob}
-use Rattle.dxc_jobs.specs.declared.frames_left.FramesDone.{FramesDone}
 use Rattle.dxc_jobs.specs.declared.frames_left.FramesLeft.{FramesLeft}
 use Rattle.dxc_jobs.specs.Begun.{AreRan}
 use Rattle.dxc_jobs.specs.Framed.{RanFrames}

@@ -1,5 +1,5 @@
 -- What stands for the changes of a history where the Provisioner is home: what a crash leaves of its journal, and a standby's copy.
-use Rattle.std.specs.Prelude.{◌≡◌, ◌<◌, ℕ, List, length, IfSome, Box}
+use Rattle.std.specs.Prelude.{◌≡◌, ◌<◌, List, length, IfSome, Box}
 use Rattle.std.specs.declared.alloc.Global.{Global}
 use Rattle.dxc_disk.specs.Disks.{DiskState, Leaves}
 use Rattle.dxc_model.specs.declared.entry.Entry.{Entry}

@@ -1,28 +1,18 @@
 -- What a session did goes on with what its place did along both histories.
 use Rattle.std.specs.Prelude.{is_some}
-use Rattle.std.proofs.Common.{◌≡◌, ◌≢◌, ◌⊎◌, ℕ, Bool, true, false, cond, length, List, [], ◌∷◌, ◌++◌, map, filter, Option, Some, None, Result, Ok, Err, refl, sym, ◌∙◌, ap, ap₂, subst, append_assoc, append-nil, inl, inr}
+use Rattle.std.proofs.Common.{◌≡◌, ◌≢◌, ◌⊎◌, ℕ, Bool, true, false, cond, length, List, [], ◌∷◌, ◌++◌, map, filter, Some, refl, sym, ◌∙◌, ap, ap₂, subst, append_assoc, append-nil, inl, inr}
 use Rattle.turnstile.specs.Dating.{Stamp}
 use Rattle.turnstile.specs.Orders.{turns_of_one, turns_of_other}
 use Rattle.turnstile.specs.Turning.{Each}
-use Rattle.dxc_model.specs.declared.cause.Cause.{Cause}
-use Rattle.dxc_model.specs.declared.cause.Cause.TheVariants.{UnknownCommand}
 use Rattle.dxc_model.specs.declared.entry.Entry.{Entry}
 use Rattle.dxc_model.specs.declared.entry.Outcome.TheVariants.{Answered, Cut, Taken}
 use Rattle.dxc_model.specs.declared.op.Op.{Op}
 use Rattle.dxc_model.specs.declared.op.Op.TheVariants.{Look}
-use Rattle.dxc_model.specs.declared.user.SessionUser.{SessionUser}
-use Rattle.dxc_model.specs.declared.user.SessionUser.TheVariants.{Nobody, User}
 use Rattle.dxc_model.specs.Tables.{Board}
 use Rattle.dxc_model.specs.Histories.{changes_of}
-use Rattle.shelf_file.specs.Contents.{Contents}
-use Rattle.tl1_text.specs.Grammar.{Block}
-use Rattle.tl1_text.specs.Units.{Input, whole, too_long}
-use Rattle.tl1_text.specs.Walk.{blocks_of}
-use Rattle.tl1_command.specs.Meanings.{Asked, acts, cancels, header, allows, inhibits, shows, asks_table, meaning}
 use Rattle.user_admin.specs.declared.op.UserEntry.{UserEntry}
 use Rattle.user_admin.specs.declared.op.UserMark.{UserMark}
 use Rattle.tl1_users.specs.declared.op.UserOp.{UserOp}
-use Rattle.tl1_users.specs.Commands.{user_meaning}
 use Rattle.user_admin.specs.Histories.{Opening as UsersOpening}
 use Rattle.user_admin.specs.Marks.{entries_of}
 use Rattle.user_admin.specs.Verdicts.{IsChanging}
@@ -32,9 +22,8 @@ use Rattle.craft_session.specs.declared.ask.Ask.{Ask}
 use Rattle.craft_session.specs.declared.ask.Ask.TheVariants.{Refused, LogsIn, LogsOut, Completes, Allows, Inhibits, Lists, Shows, Restarts, Changes}
 use Rattle.craft_session.specs.Asks.{Language, Reply}
 use Rattle.craft_session.specs.Doing.{AnyEntry, AreDated, CutsOn, Does, Doing, HearsOn, begins_doing, cut_on, does_look, does_nothing, does_unit, done_on, heard_on, is_used, of_users, table_on, table_passes, used_of, users_pass, using}
-use Rattle.craft_session.specs.Hearing.{Heard, Hears, Wanted, done_with, found, nothing, refused_by, to_do, unasked}
+use Rattle.craft_session.specs.Hearing.{Heard, Hears, Wanted, nothing, to_do, unasked}
 use Rattle.craft_session.specs.Happenings.{quiet}
-use Rattle.craft_session.specs.Meanings.{asks, command_ask, command_wants, heard_ask, language, log_in, named_by, session_ask, session_wants, text_ask, text_wants, users_ask, users_want, wants}
 use Rattle.craft_session.specs.Runs.{Walk, with_entries, with_look, with_quiet}
 use Rattle.craft_session.specs.Walks.{CutsAt, IsUnused, Serves, attending_after}
 use Rattle.switch_laws.specs.Element.{Session, answered, reported, rested, unanswered}
@@ -42,67 +31,7 @@ use Rattle.switch_laws.specs.Laws.{session_in}
 use Rattle.switch_laws.specs.Orders.{ActsAlong, AnyMark, GoneAlong, TookAlong, acts_at_table, acts_at_users, after, any_entries, caller_acts, is_used_mark, looks_on, nothing_came, stopped_before_users, stopped_short, table_goes_on, users_go_on}
 use Rattle.switch_laws.proofs.Along.{own_used}
 use Rattle.switch_laws.proofs.Marked.{any_append, heard_used, none_of_table, none_of_users, table_used, used_append, users_used}
-
--- what is asked that takes no entry of the table
-abbrev pub TakesNone : Ask → Type 0
-TakesNone (Refused q) = Unit {0}
-TakesNone (LogsIn u) = Unit {0}
-TakesNone LogsOut = Unit {0}
-TakesNone Completes = Unit {0}
-TakesNone Allows = ⊥
-TakesNone Inhibits = Unit {0}
-TakesNone (Lists which) = ⊥
-TakesNone (Shows what) = ⊥
-TakesNone Restarts = ⊥
-TakesNone (Changes op) = ⊥
-
--- who wants something of the users asks nothing of the table
-abbrev pub Parts : {U M : Type 0} → Language U M → Type 0
-Parts {U} l = (s : SessionUser) (u : U) → (l.wants s u ≡ nothing) ⊎ TakesNone (l.asks s u)
-
-log_in_none : (user named : SessionUser) → TakesNone (log_in user named)
-log_in_none Nobody Nobody = tt
-log_in_none Nobody (User uid class) = tt
-log_in_none (User own kind) Nobody = tt
-log_in_none (User own kind) (User uid class) = tt
-
-heard_none : (x : Heard) → TakesNone (heard_ask x)
-heard_none unasked = tt
-heard_none (found class) = tt
-heard_none (refused_by q) = tt
-heard_none (done_with rows) = tt
-
-abbrev Split : Wanted → Ask → Type 0
-Split w k = (w ≡ nothing) ⊎ TakesNone k
-
-users_part : (x : Heard) (o : Result UserOp Cause) → Split (users_want o) (users_ask x o)
-users_part x (Ok o) = inr (heard_none x)
-users_part x (Err q) = inl refl
-
-session_part : (user : SessionUser) (x : Heard) (a : Asked) → Split (session_wants user a) (session_ask user x a)
-session_part user x (acts uid pid) = inr (log_in_none user (named_by uid x))
-session_part user x (cancels uid) = inl refl
-session_part user x header = inl refl
-session_part user x allows = inl refl
-session_part user x inhibits = inl refl
-session_part user x (shows what) = inl refl
-session_part user x (asks_table o) = inl refl
-
-command_part : (s : Contents) (user : SessionUser) (x : Heard) (bs : List Block) (a : Result Asked Cause) → Split (command_wants s user bs a) (command_ask s user x bs a)
-command_part s user x bs (Ok a) = session_part user x a
-command_part s user x bs (Err UnknownCommand) = users_part x (user_meaning s.sid user bs)
-command_part s user x bs (Err q) = inl refl
-
-text_part : (s : Contents) (user : SessionUser) (x : Heard) (bs : Option (List Block)) → Split (text_wants s user bs) (text_ask s user x bs)
-text_part s user x None = inl refl
-text_part s user x (Some bs) = command_part s user x bs (meaning s.shape s.sid user bs)
-
-input_part : (s : Contents) (user : SessionUser) (x : Heard) (i : Input) → Split (wants s user i) (asks s user x i)
-input_part s user x too_long = inl refl
-input_part s user x (whole text) = text_part s user x (blocks_of text)
-
-pub parts : (s : Contents) → Parts (language s)
-parts s = λ user u. input_part s user u.heard u.input
+use Rattle.switch_laws.proofs.Parting.{Parts, TakesNone}
 
 -- what turns left at the table goes on, and what they left with the users
 module _ (p : ℕ) (past : List Entry) where

@@ -14,7 +14,7 @@ use dxc_model::{Cause, Op};
 use dxc_num::Port;
 use dxc_outside::{MemGate, Stopped};
 use fabric_words::{Fabric, WorkerSeat};
-use roll_engine::Advance;
+use roll_engine::Halt;
 use std::alloc::Global;
 use std::snapshot::Snapshot;
 use std::sync::Wait;
@@ -29,13 +29,13 @@ pub struct Beside {
     /// The OUT word that the worker holds.
     pub held: Option<u64>,
     /// How the mover was held up.
-    pub first: Result<Advance, Stopped>,
+    pub first: Result<(), Halt>,
     /// How often the gate was asked until then.
     pub asked: u64,
     /// The MID word and the IN word that the worker found then.
     pub followed: Option<(u64, u64)>,
     /// How the mover went on when the frame had ended.
-    pub then: Result<Advance, Stopped>,
+    pub then: Result<(), Halt>,
     /// How often the gate was asked in all.
     pub asked_in_all: u64,
 }
@@ -149,18 +149,18 @@ fn bring_or_cut<D: Disk + Drop, R: Wait>(
     fabric: &Fabric,
     op: &Op,
     driver: Box<Driver<D>>,
-    then: Result<Advance, Stopped>,
+    then: Result<(), Halt>,
     rt: &R,
 )
     requires pass { HasPass turns.now pass.old }
     requires fabric { (opening_of D.state turns.now.first).site.fabric ≡ fabric.now }
     requires taken { Upon D.Disk turns.now pass.old (OutFor D.Disk op.now driver.value) }
-    requires done { then ≡ Ok Advance.Done → rest_of driver.value.rolling ≡ [] }
+    requires done { then ≡ Ok tt → rest_of driver.value.rolling ≡ [] }
     ensures { IsSeated D.told D.state pass.new turns.now fabric.now }
 {
     let _ = fabric;
     match then {
-        Ok(Advance::Done) => turns::bring(pass, turns, op, driver, rt),
+        Ok(()) => turns::bring(pass, turns, op, driver, rt),
         _ => turns::cut(pass, turns, op, driver, rt),
     }
 }

@@ -17,7 +17,7 @@ use dxc_model::{Cct, Conn, Label, Op};
 use dxc_num::Port;
 use dxc_outside::AlwaysGo;
 use fabric_words::{Fabric, WorkerSeat};
-use roll_engine::Advance;
+use roll_engine::Halt;
 use shelf_file::Shelf;
 use std::alloc::Global;
 use std::sync::Wait;
@@ -33,10 +33,10 @@ const OUTPUT: Port = Port(3);
 /// to slot 0 of module 1, and ends its frame; then the other fifteen are made.
 const WANTED: Beside = Beside {
     held: Some(257),
-    first: Ok(Advance::InFrame(1)),
+    first: Err(Halt::InFrame(1)),
     asked: 4,
     followed: Some((2, 1)),
-    then: Ok(Advance::Done),
+    then: Ok(()),
     asked_in_all: 19,
 };
 

@@ -20,7 +20,7 @@ use dxc_disk::Disk;
 use dxc_outside::{Gate, Stopped};
 use fabric_words::{Fabric, MoverSeat};
 use roll_engine::cold::advance_cold;
-use roll_engine::{Advance, Rolling};
+use roll_engine::{Halt, Rolling};
 use shelf_file::Shelf;
 use std::alloc::Global;
 
@@ -97,8 +97,11 @@ fn join_all<D: Disk, G: Gate>(
     let advance = advance_cold(&p.matrix, fabric, &mut p.mover, &mut rolling, gate);
     p.spent = p.mover.switches();
     // Joins look at no frame.
-    match advance? {
-        Advance::Done => Ok(()),
-        Advance::InFrame(_) => unreachable!(),
+    match advance {
+        Ok(()) => Ok(()),
+        Err(halt) => match halt {
+            Halt::Stopped => Err(Stopped),
+            Halt::InFrame(_) => unreachable!(),
+        },
     }
 }

@@ -1,5 +1,6 @@
 use Rattle.craft_session.specs.Meanings.{language}
-use Rattle.switch_laws.proofs.Beside.{cut_after, cut_before, gone_on, parts}
+use Rattle.switch_laws.proofs.Beside.{cut_after, cut_before, gone_on}
+use Rattle.switch_laws.proofs.Parting.{parts}
 use Rattle.switch_laws.proofs.does_are_acts.Goals as goal
 
 pub returns : goal.returns

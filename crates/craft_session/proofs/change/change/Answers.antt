@@ -1,4 +1,4 @@
-use Rattle.std.proofs.Common.{◌≡◌, ◌⊎◌, ℕ, false, Ok, List, [], ◌∷◌, ◌++◌, inl, inr, refl, sym, ◌∙◌, ap, subst}
+use Rattle.std.proofs.Common.{◌≡◌, ◌⊎◌, ℕ, false, Ok, List, [], ◌∷◌, ◌++◌, inl, inr, refl, sym, ap, subst}
 use base.Stored.{Gv}
 use Rattle.dxc_disk.specs.Disks.{DiskState}
 use Rattle.dxc_model.specs.declared.op.Op.{Op}

@@ -1,4 +1,4 @@
-use Rattle.std.proofs.Common.{ℕ, false, List, Option, [], ◌++◌, refl, ◌∙◌, subst, inl}
+use Rattle.std.proofs.Common.{ℕ, false, List, Option, [], ◌++◌, refl, subst, inl}
 use Rattle.dxc_model.specs.declared.entry.Entry.{Entry}
 use Rattle.xc_core.specs.Seeing.{Saw, TurnedBack}
 use Rattle.xc_core.specs.Turns.{TookIs}

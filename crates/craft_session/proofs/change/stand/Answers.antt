@@ -1,4 +1,4 @@
-use Rattle.std.proofs.Common.{List, Option, [], append-nil, refl, sym, subst}
+use Rattle.std.proofs.Common.{List, Option, [], append-nil, sym, subst}
 use Rattle.dxc_model.specs.declared.cause.Cause.{Cause}
 use Rattle.dxc_model.specs.declared.entry.Entry.{Entry}
 use Rattle.xc_core.specs.Seeing.{Saw}

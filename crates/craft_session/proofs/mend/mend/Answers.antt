@@ -1,4 +1,4 @@
-use Rattle.std.proofs.Common.{ap, ℕ, [], ◌∷◌, ◌++◌, ◌∙◌, refl, sym, subst}
+use Rattle.std.proofs.Common.{ap, ℕ, [], ◌∷◌, ◌++◌, refl, sym, subst}
 use Rattle.dxc_model.specs.declared.entry.Outcome.TheVariants.{Taken}
 use Rattle.dxc_model.specs.declared.op.Op.TheVariants.{Restart}
 use Rattle.xc_core.specs.Seeing.{HasHeld, entry}

@@ -1,15 +1,14 @@
-use Rattle.std.proofs.Common.{◌<◌, ◌∙◌, List, length, get_or, Ok, arith, sym, subst}
+use Rattle.std.proofs.Common.{◌<◌, List, length, get_or, Ok, arith, sym, subst}
 use Rattle.roll_plan.specs.declared.op.Move.{Move}
 use Rattle.roll_plan.specs.Works.{ops_writes}
 use Rattle.roll_plan.specs.Nexts.{BeginsMove}
 use Rattle.fabric_core.specs.declared.size.Size.{Size}
 use Rattle.fabric_core.specs.declared.mover.Mover.{Mover}
-use Rattle.roll_engine.specs.declared.answer.Advance.TheVariants.{Done}
 use Rattle.roll_engine.specs.Rollings.{RollingAt, at_step}
 use Rattle.roll_engine.specs.Answers.{Answer}
 use Rattle.roll_engine.specs.Walks.{Walks}
 use Rattle.roll_engine.proofs.Going.{begins_first}
-use Rattle.roll_engine.proofs.Walking.{far_is, stop_is, walks_none, walks_on}
+use Rattle.roll_engine.proofs.Walking.{handed_on, walks_none, walks_on}
 use Rattle.roll_engine.proofs.run.moves_on.Goals as goal
 
 pub returns-then-made-ne0-clause-walks : goal.returns-then-made-ne0-clause-walks
@@ -31,22 +30,12 @@ move_on-requires-clause-next g c =
     let low = subst (λ (vs : List Move). l.step-index < length vs) is c.loop-step-test.true in
     subst (λ (vs : List Move). BeginsMove (ops_writes ops) l.made (get_or vs l.step-index _)) (sym is) (begins_first ops _ l.step-index l.made l.invariant.made low)
 
-pub returns-in_err-halted : goal.returns-in_err-halted
-returns-in_err-halted g c =
+pub returns-in_err-move_on : goal.returns-in_err-move_on
+returns-in_err-move_on g c =
     let l = c.loop-step in let r = c.args.rolling.now in let first : RollingAt = at_step c.args.made.now r in let new : RollingAt = at_step c.move_on.new.made r in
     let m : Mover = c.args.mover.now.mover in let b : Mover = c.move_on.new.mover.mover in record {
       own = c.move_on.ensures.own;
-      walks = subst (λ (x : Answer). Walks g.G.Gate.stops g.G.Gate.asked c.args.fabric.now.size first new m b c.args.gate.now c.move_on.new.gate x) (c.in_err-halted.was ∙ stop_is c.from_residual.result c.from_residual.ensures.0)
-          (walks_on g.G.Gate.stops g.G.Gate.asked c.args.fabric.now.size g.G.Gate.asked_on first (at_step l.made r) new
-          m l.mover.mover b c.args.gate.now l.gate c.move_on.new.gate c.move_on.result l.invariant.walks c.move_on.ensures.walks);
-    }
-
-pub returns-in_default : goal.returns-in_default
-returns-in_default g c =
-    let l = c.loop-step in let r = c.args.rolling.now in let first : RollingAt = at_step c.args.made.now r in let new : RollingAt = at_step c.move_on.new.made r in
-    let m : Mover = c.args.mover.now.mover in let b : Mover = c.move_on.new.mover.mover in record {
-      own = c.move_on.ensures.own;
-      walks = subst (λ (x : Answer). Walks g.G.Gate.stops g.G.Gate.asked c.args.fabric.now.size first new m b c.args.gate.now c.move_on.new.gate x) c.in_ok-halted.was
+      walks = subst (λ (x : Answer). Walks g.G.Gate.stops g.G.Gate.asked c.args.fabric.now.size first new m b c.args.gate.now c.move_on.new.gate x) (handed_on c.move_on.result c.from_residual.result c.in_err-move_on.field-0.0 c.in_err-move_on.was c.from_residual.ensures.1)
           (walks_on g.G.Gate.stops g.G.Gate.asked c.args.fabric.now.size g.G.Gate.asked_on first (at_step l.made r) new
           m l.mover.mover b c.args.gate.now l.gate c.move_on.new.gate c.move_on.result l.invariant.walks c.move_on.ensures.walks);
     }
@@ -57,7 +46,7 @@ loop-step-preserved g c =
     let old : RollingAt = at_step l.made r in let new : RollingAt = at_step c.move_on.new.made r in
     let a : Mover = l.mover.mover in let b : Mover = c.move_on.new.mover.mover in record {
       own = c.move_on.ensures.own;
-      made = let at = l.invariant.made in let more = c.move_on.ensures.all (far_is c.in_ok-halted.was c.in-Done.is) in omega arith;
-      walks = walks_on g.G.Gate.stops g.G.Gate.asked z g.G.Gate.asked_on (at_step c.args.made.now r) old new c.args.mover.now.mover a b c.args.gate.now l.gate c.move_on.new.gate (Ok Done) l.invariant.walks
-          (subst (λ (x : Answer). Walks g.G.Gate.stops g.G.Gate.asked z old new a b l.gate c.move_on.new.gate x) (far_is c.in_ok-halted.was c.in-Done.is) c.move_on.ensures.walks);
+      made = let at = l.invariant.made in let more = c.move_on.ensures.all c.in_ok-move_on.was in omega arith;
+      walks = walks_on g.G.Gate.stops g.G.Gate.asked z g.G.Gate.asked_on (at_step c.args.made.now r) old new c.args.mover.now.mover a b c.args.gate.now l.gate c.move_on.new.gate (Ok tt) l.invariant.walks
+          (subst (λ (x : Answer). Walks g.G.Gate.stops g.G.Gate.asked z old new a b l.gate c.move_on.new.gate x) c.in_ok-move_on.was c.move_on.ensures.walks);
     }

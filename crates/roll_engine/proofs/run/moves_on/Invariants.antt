@@ -1,5 +1,4 @@
 use Rattle.std.proofs.Common.{◌≡◌, ◌*◌, Ok}
-use Rattle.roll_engine.specs.declared.answer.Advance.TheVariants.{Done}
 use Rattle.roll_engine.specs.Rollings.{at_step}
 use Rattle.roll_engine.specs.Walks.{Walks}
 use Rattle.roll_engine.proofs.run.moves_on.Given as goal
@@ -8,5 +7,5 @@ abbrev pub invariant-loop-step : goal.invariant-loop-step
 invariant-loop-step g l = record {
   own : l.mover.fabric ≡ l.fabric;
   made : l.made ≡ 5 * l.step-index;
-  walks : Walks g.G.Gate.stops g.G.Gate.asked l.fabric.size (at_step l.fn.made l.rolling) (at_step l.made l.rolling) l.fn.mover.mover l.mover.mover l.fn.gate l.gate (Ok Done);
+  walks : Walks g.G.Gate.stops g.G.Gate.asked l.fabric.size (at_step l.fn.made l.rolling) (at_step l.made l.rolling) l.fn.mover.mover l.mover.mover l.fn.gate l.gate (Ok tt);
 }
