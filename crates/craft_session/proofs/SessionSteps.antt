@@ -423,7 +423,7 @@ module _ (l : Language Request Moment) (told clock_told : Type 0) (k : LinkState
     long_ended kind ahead s is = subst (λ (x : UnitKind). Made s.rest x r) is s.made
 
     -- a read was made, and its items stand ahead
-    exchanged_on : (j2 : LinkState) (got : Got) (buffer : List ℕ) → (s : Stands l told clock_told k j c d b now false More r []) → IsRead told j j2 got buffer → Exchanged told k j2 (s.items ++ taken got buffer) s.out
+    pub exchanged_on : (j2 : LinkState) (got : Got) (buffer : List ℕ) → (s : Stands l told clock_told k j c d b now false More r []) → IsRead told j j2 got buffer → Exchanged told k j2 (s.items ++ taken got buffer) s.out
     exchanged_on j2 got buffer s read = exchanged_read told k j j2 s.items s.out got buffer (subst (λ (x : List Item). Exchanged told k j x s.out) (append-nil s.items) s.exchanged) read
 
     -- a piece came
@@ -459,7 +459,7 @@ module _ (l : Language Request Moment) (told clock_told : Type 0) (k : LinkState
       abbrev back : List ℕ
       back = drop (at + fed.taken) piece
 
-      items_are : s.items ++ bytes (drop at piece) ≡ (s.items ++ bytes front) ++ bytes back
+      pub items_are : s.items ++ bytes (drop at piece) ≡ (s.items ++ bytes front) ++ bytes back
       items_are =
           let joined : bytes (drop at piece) ≡ bytes front ++ bytes (drop fed.taken (drop at piece)) = ap (λ (x : List ℕ). bytes x) (sym (take-append-drop fed.taken (drop at piece))) ∙ map-append byte front (drop fed.taken (drop at piece)) in
           ap (λ (x : List Item). s.items ++ x) (joined ∙ ap (λ (x : List ℕ). bytes front ++ bytes x) (drop-drop fed.taken at piece)) ∙ sym (append_assoc s.items (bytes front) (bytes back))
