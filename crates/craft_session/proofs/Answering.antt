@@ -34,14 +34,13 @@ use Rattle.craft_session.specs.Responses.{beside}
 use Rattle.craft_session.specs.Desks.{IsReplied, IsSaidOf, IsStoppedAt, IsAnswered, input_of}
 use Rattle.craft_session.specs.Meanings.{asks, tag_of, language_for, wants}
 use Rattle.craft_session.specs.Seats.{IsSameSeat, IsSameUserSeat, SeatAt, UserSeatAt}
-use Rattle.craft_session.specs.Sessions.{Now, Beginning, Halts, IsAt, IsSaid, Stands, Goes}
+use Rattle.craft_session.specs.Sessions.{Now, Beginning, IsAt, IsSaid, Stands, Goes, walk_after}
 use Rattle.craft_session.specs.Stamps.{Stamp, stamp_at}
-use Rattle.craft_session.specs.Timely.{IsTimely, reached, starting, telling}
+use Rattle.craft_session.specs.Timely.{reached}
 use Rattle.craft_session.proofs.Consulted.{Learns}
 use Rattle.craft_session.proofs.Done.{UnitTurned}
 use Rattle.craft_session.proofs.Learning.{cut_untold, given, given_as, replied_given, tells, tells_asked}
-use Rattle.craft_session.proofs.SessionSteps.{answered_in_time, goes_on, goes_cut, goes_stopped, goes_unheard, whole_ended, long_ended}
-use Rattle.craft_session.proofs.Timely.{timely_none}
+use Rattle.craft_session.proofs.SessionSteps.{Gone, goes_on, goes_cut, goes_stopped, goes_unheard, whole_ended, long_ended}
 
 module _ (s : Contents) (first : SessionUser) (told clock_told : Type 0) (k j : LinkState) (c d : List Moment) (b : Beginning) (now : Now) (kind : UnitKind) (r : Reader) (ahead : List ℕ) (stands : Stands (language_for first s) told clock_told k j c d b now false kind r ahead)
     (seat : SeatAt) (users : UserSeatAt) (at : IsAt b seat users) (j2 : LinkState) (d2 : List Moment) (after : Now) (users_seen : users.seen ≡ now.users) (turned : UnitTurned b.place now after) where
@@ -96,23 +95,28 @@ module _ (s : Contents) (first : SessionUser) (told clock_told : Type 0) (k j : 
         said sent (unit_told x.heard x.standing) x.reply
         (replied_given s told clock_told j j2 d d2 sent (tag_of u) (rows_heard x.heard) x.reply (asks_program (asked x.heard)) x.standing (told_so x.heard x.reply x.acts) x.said)
 
-    answered_by_stop : IsStoppedAt s j j2 d d2 u seat users now after → Halts (language_for first s) told clock_told k j2 c d2 b after
-    answered_by_stop x = elim x.stopped [
-      | inl t ↦ goes_stopped (language_for first s) told clock_told k c b j d now r kind ahead stands (unit_untold t.heard) ended j2 d2 after turned x.link x.clock (untold t.heard t.stops, hears (wants s now.attending.user u) t.heard t.behind) (stops (asks s now.attending.user t.heard u) t.stops)
-      | inr t ↦ goes_unheard (language_for first s) told clock_told k c b j d now r kind ahead stands (unit_untold unasked) ended j2 d2 after turned.0 t.stamps t.unasked.op x.link x.clock t.unasked.wanted t.unasked.changing
-          (there (λ o n seen. (h : List UserEntry) → SawUsers o seen h → TurnedBack o n h after.users) t.unasked.behind) t.seen t.attending
-    ]
+    -- how the session goes then, by seats that have seen what is seen then
+    module _ (stamped : Stamp → Type 0) (seat2 : SeatAt) (users2 : UserSeatAt) (at2 : IsAt b seat2 users2) (seen2 : seat2.seen ≡ after.seen) (users_seen2 : users2.seen ≡ after.users) (stamps2 : seat2.stamps ≡ after.stamps) (users_stamps2 : users2.stamps ≡ after.users_stamps) where
+      abbrev l : Language Request Moment
+      l = language_for first s
 
-    pub answered : (how : Result Progress Stopped) → IsAnswered s told clock_told j j2 d d2 u seat users now after how → Goes (language_for first s) told clock_told k j2 c d2 b after how (is_some after.attending.watch) r ahead
-    answered (Ok On) x = goes_on (language_for first s) told clock_told k c b j d now r kind ahead stands (unit_told x.heard x.standing) ended j2 d2 x.reply after turned (said_on Whole x) (learns_told x.heard x.standing x.behind) (acts (asks s now.attending.user x.heard u) x.reply x.acts)
-    answered (Ok Cut) x = goes_cut (language_for first s) told clock_told k c b j d now r kind ahead stands (unit_told x.heard x.standing) ended j2 d2 x.reply after turned (said_on Sent_cut x) (learns_told x.heard x.standing x.behind) (acts (asks s now.attending.user x.heard u) x.reply x.acts)
-    answered (Err e) x = answered_by_stop x
+      abbrev pub Goes_so : Result Progress Stopped → Type 0
+      Goes_so how = Gone l told clock_told k c b stamped j (reached j2.written seat2.seen users2.seen) stands.past.walk (Goes l told clock_told k j2 c d2 b after how (is_some after.attending.watch) r ahead) (walk_after l told clock_told k j2 c d2 b after how (is_some after.attending.watch) r ahead)
 
-    pub answered_timely : (stamped : Stamp → Type 0) (seat2 : SeatAt) (users2 : UserSeatAt) → IsAt b seat2 users2 → seat2.seen ≡ after.seen → users2.seen ≡ after.users → seat2.stamps ≡ after.stamps → users2.stamps ≡ after.users_stamps → (how : Result Progress Stopped) → IsAnswered s told clock_told j j2 d d2 u seat users now after how
-        → (IsOk how → stamped (stamp_at d j seat2 users2)) → IsTimely (language_for first s) (telling told clock_told stamped) (starting k c b) j (reached j2.written seat2.seen users2.seen)
-    answered_timely stamped seat2 users2 at2 seen2 users_seen2 stamps2 users_stamps2 (Ok On) x was = answered_in_time (language_for first s) told clock_told k c b j d now r kind ahead stands (unit_told x.heard x.standing) j2 d2 ended.0 x.reply after turned (learns_told x.heard x.standing x.behind) (acts (asks s now.attending.user x.heard u) x.reply x.acts) stamped seat2 users2 Whole (said_on Whole x) at2 seen2 users_seen2 stamps2 users_stamps2 (was refl)
-    answered_timely stamped seat2 users2 at2 seen2 users_seen2 stamps2 users_stamps2 (Ok Cut) x was = answered_in_time (language_for first s) told clock_told k c b j d now r kind ahead stands (unit_told x.heard x.standing) j2 d2 ended.0 x.reply after turned (learns_told x.heard x.standing x.behind) (acts (asks s now.attending.user x.heard u) x.reply x.acts) stamped seat2 users2 Sent_cut (said_on Sent_cut x) at2 seen2 users_seen2 stamps2 users_stamps2 (was refl)
-    answered_timely stamped seat2 users2 at2 seen2 users_seen2 stamps2 users_stamps2 (Err e) x was = timely_none (language_for first s) (telling told clock_told stamped) (starting k c b) j (reached j2.written seat2.seen users2.seen) (ap (λ (y : LinkState). y.written) x.link)
+      answered_by_stop : (e : Stopped) → IsStoppedAt s j j2 d d2 u seat users now after → Goes_so (Err e)
+      answered_by_stop e x =
+          let end = reached j2.written seat2.seen users2.seen in
+          let none = ap (λ (y : LinkState). y.written) x.link in
+          elim x.stopped [
+            | inl t ↦ goes_stopped l told clock_told k c b j d now r kind ahead stands (unit_untold t.heard) ended stamped end none j2 d2 after turned x.link x.clock (untold t.heard t.stops, hears (wants s now.attending.user u) t.heard t.behind) (stops (asks s now.attending.user t.heard u) t.stops)
+            | inr t ↦ goes_unheard l told clock_told k c b j d now r kind ahead stands (unit_untold unasked) ended stamped end none j2 d2 after turned.0 t.stamps t.unasked.op x.link x.clock t.unasked.wanted t.unasked.changing
+                (there (λ o n seen. (h : List UserEntry) → SawUsers o seen h → TurnedBack o n h after.users) t.unasked.behind) t.seen t.attending
+          ]
+
+      pub answered : (how : Result Progress Stopped) → IsAnswered s told clock_told j j2 d d2 u seat users now after how → (IsOk how → stamped (stamp_at d j seat2 users2)) → Goes_so how
+      answered (Ok On) x was = goes_on l told clock_told k c b j d now r kind ahead stands (unit_told x.heard x.standing) j2 d2 ended.0 x.reply after turned (learns_told x.heard x.standing x.behind) (acts (asks s now.attending.user x.heard u) x.reply x.acts) stamped seat2 users2 at2 seen2 users_seen2 stamps2 users_stamps2 (was refl) ended.1 (said_on Whole x)
+      answered (Ok Cut) x was = goes_cut l told clock_told k c b j d now r kind ahead stands (unit_told x.heard x.standing) j2 d2 ended.0 x.reply after turned (learns_told x.heard x.standing x.behind) (acts (asks s now.attending.user x.heard u) x.reply x.acts) stamped seat2 users2 at2 seen2 users_seen2 stamps2 users_stamps2 (was refl) (said_on Sent_cut x)
+      answered (Err e) x was = answered_by_stop e x
 
 -- a unit that ended, whole or too long
 pub input_ended : (l : Language Request Moment) (told clock_told : Type 0) (k j : LinkState) (c d : List Moment) (b : Beginning) (now : Now) (r : Reader) (ahead : List ℕ) (kind : UnitKind) (s : Stands l told clock_told k j c d b now false kind r ahead) → kind ≢ More → IsUnit s.rest (input_of kind r) × (hand r ≡ [])
@@ -155,12 +159,3 @@ module _ (s : Contents) (told clock_told : Type 0) (k j : LinkState) (c d : List
 -- a stop at the users
 pub unheard_of : (s : Contents) (k : LinkState) (c : List Moment) (u : Input) (seat : SeatAt) (users : UserSeatAt) (before after : Now) → IsUnasked users (wants s before.attending.user u) after.users → after.seen ≡ before.seen → after.stamps ≡ before.stamps → after.attending ≡ before.attending → IsStoppedAt s k k c c u seat users before after
 unheard_of s k c u seat users before after x seen stamps attending = record { link = refl; clock = refl; stopped = inr (record { unasked = x; seen = seen; stamps = stamps; attending = attending }) }
-
--- what a call does to a session stands for the language and the seat that the session began with
-module _ {Shelf : Type 0} (value : Shelf → Contents) (first : SessionUser) (told clock_told : Type 0) (j j2 : LinkState) (d d2 : List Moment) (now after : Now) (due : Bool) (r r2 : Reader) (how : Result Progress Stopped) (old new : Shelf) (was is_now : SeatAt) (users_was users_now : UserSeatAt) where
-  pub moved_goes : (ahead more : List ℕ) → new ≡ old → IsSameSeat was is_now → IsSameUserSeat users_was users_now
-      → ((k : LinkState) (c : List Moment) (b : Beginning) → IsAt b is_now users_now → Stands (language_for first (value new)) told clock_told k j c d b now due More r ahead → Goes (language_for first (value new)) told clock_told k j2 c d2 b after how false r2 more)
-      → (k : LinkState) (c : List Moment) (b : Beginning) → IsAt b was users_was → Stands (language_for first (value old)) told clock_told k j c d b now due More r ahead → Goes (language_for first (value old)) told clock_told k j2 c d2 b after how false r2 more
-  moved_goes ahead more shelf seat users goes =
-      let there = subst (λ (s : Shelf). (k : LinkState) (c : List Moment) (b : Beginning) → IsAt b is_now users_now → Stands (language_for first (value s)) told clock_told k j c d b now due More r ahead → Goes (language_for first (value s)) told clock_told k j2 c d2 b after how false r2 more) shelf goes in
-      λ k c b at s. there k c b (seat.0 ∙ at.0, seat.1 ∙ at.1, users.0 ∙ at.2, users.1 ∙ at.3) s

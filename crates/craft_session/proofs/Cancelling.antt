@@ -27,8 +27,8 @@ use Rattle.craft_session.specs.Happenings.{Request}
 use Rattle.craft_session.specs.Noted.{IsBeside, stood}
 use Rattle.craft_session.specs.Seats.{IsSameSeat, IsSameUserSeat, SeatAt, UserSeatAt, UsersInTurn}
 use Rattle.craft_session.specs.Sessions.{Beginning, IsAt, IsEnded, IsFrom, Now, Stands, now_of}
-use Rattle.craft_session.specs.Stamps.{stamp_at}
-use Rattle.craft_session.specs.Timely.{GoesOn, Telling, WasTimely, reached, starting}
+use Rattle.craft_session.specs.Runs.{begins}
+use Rattle.craft_session.specs.Timely.{GoesOn, IsTimely, Telling, reached, starting}
 use Rattle.craft_session.proofs.Consulted.{consulted_back}
 use Rattle.craft_session.proofs.Done.{UsersTurned, done_back, users_turned}
 use Rattle.craft_session.proofs.Gated.{are_entered_on}
@@ -145,7 +145,7 @@ module _ (l : Language Request Moment) (t : Telling) {X : Type 0} (asked : X →
     pub seat_is : IsSameSeat began seat
     pub users_are : IsSameUserSeat users_began users
     pub stands : (b : Beginning) → IsAt b began users_began → Saw b.opening began.seen b.before → SawUsers b.users users_began.seen b.users_before → IsFrom b began users_began → Stands l t.told t.clock_told k j c d b (now_of seat users attending) false More reader []
-    pub timely : WasTimely l t (stamp_at c k began users_began) (reached j.written seat.seen users.seen)
+    pub timely : (b : Beginning) (at : IsAt b began users_began) (saw : Saw b.opening began.seen b.before) (users_saw : SawUsers b.users users_began.seen b.users_before) (first : IsFrom b began users_began) → IsTimely l t (starting k c b) k (reached j.written seat.seen users.seen) (stands b at saw users_saw first).past.walk
     pub entered : AreEntered began users_began (asked a z) seat.seen users.seen
 
   pub record Looked (patience : Patience) (cancelled : Bool) (seat : SeatAt) (users : UserSeatAt) (attending : Attending) (reader : Reader) : Type 0 where
@@ -169,7 +169,9 @@ module _ (l : Language Request Moment) (t : Telling) {X : Type 0} (asked : X →
         seat_is = i.seat_is;
         users_are = (same.0 ∙ i.users_are.0, same.1 ∙ i.users_are.1, same.2 ∙ i.users_are.2, same.3 ∙ i.users_are.3);
         stands = λ b at saw users_saw first. looked_stands patience attending.user seat users then.seen cancelled heeded b (at_here b at) l t.told t.clock_told k j c d was refl reader then.stamps (turned_here b at) (i.stands b at saw users_saw first);
-        timely = λ b at saw users_saw first. timely_more l t (starting k c b) k j seat.seen users.seen (i.timely b at saw users_saw first) (reached j.written seat.seen then.seen) (timely_none l t (starting k c b) j (reached j.written seat.seen then.seen) refl) (looked_on patience attending.user seat users then.seen cancelled heeded b (at_here b at) t.told j.written seat.seen);
+        timely = λ b at saw users_saw first.
+            let v = (i.stands b at saw users_saw first).past.walk in
+            timely_more l t (starting k c b) k j seat.seen users.seen v (i.timely b at saw users_saw first) (reached j.written seat.seen then.seen) v begins (timely_none l t (starting k c b) j (reached j.written seat.seen then.seen) v refl) (looked_on patience attending.user seat users then.seen cancelled heeded b (at_here b at) t.told j.written seat.seen);
         entered = are_entered_on asked on began seat users_began users a z z seat.seen then.seen i.entered i.seat_is i.users_are (looked_entered patience attending.user seat users then.seen cancelled heeded (asked z z) (unasked z));
       };
       ended = λ is b at saw users_saw first. ended_stands patience attending.user seat users then.seen cancelled heeded b (at_here b at) l t.told t.clock_told k j c d was refl reader then.stamps (turned_here b at) is (i.stands b at saw users_saw first);

@@ -46,18 +46,18 @@ use Rattle.craft_session.specs.Hearing.{HeardBehind, to_do}
 use Rattle.craft_session.specs.Moments.{Gives, gave_none, gave_next}
 use Rattle.craft_session.specs.Notices.{AreReported, Notice, found_notices, notices}
 use Rattle.craft_session.specs.Progresses.{progress_of}
-use Rattle.craft_session.specs.Runs.{Run, Walk, begins, waits, looks, beginning, with_look, with_quiet, with_response}
-use Rattle.craft_session.specs.Sessions.{AreTold, Beginning, Breaks, Consulted, CutPast, Goes, Halts, HasDone, IsAt, IsDoneBy, IsSaid, Now, Past, Served, Stands, StopPast, Writes}
+use Rattle.craft_session.specs.Runs.{Run, RunsOn, Walk, begins, waits, looks, beginning, with_look, with_quiet, with_response}
+use Rattle.craft_session.specs.Sessions.{AreTold, Beginning, Breaks, Consulted, CutPast, Goes, Halts, HasDone, IsAt, IsDoneBy, IsSaid, Now, Past, Served, Stands, StopPast, Writes, walk_after}
 use Rattle.craft_session.specs.Seats.{SeatAt, UserSeatAt}
 use Rattle.craft_session.specs.Stamps.{AreStamped, Stamp, stamp_at}
-use Rattle.craft_session.specs.Timely.{IsTimely, reached, starting, telling}
+use Rattle.craft_session.specs.Timely.{IsTimely, Reached, reached, starting, telling}
 use Rattle.craft_session.specs.Walks.{begun_by}
 use Rattle.craft_session.proofs.Changing.{others_unused}
 use Rattle.craft_session.proofs.Consulted.{Learns, consulted_back, consulted_on, consulted_quiet}
 use Rattle.craft_session.proofs.Done.{TableTurned, UnitTurned, UsersTurned, done_back, done_cut, done_look, done_none, done_quiet, done_there, done_unit}
 use Rattle.craft_session.proofs.Reporting.{found_is}
-use Rattle.craft_session.proofs.Timely.{in_message, sent_to}
-use Rattle.craft_session.proofs.Walking.{cursor_within, due_some, snoc_some, passes_all, run_answered, with_history}
+use Rattle.craft_session.proofs.Timely.{in_message, sent_to, timely_none}
+use Rattle.craft_session.proofs.Walking.{cursor_within, due_some, snoc_some, passes_all, run_answered, run_more, with_history}
 
 pub writes_none : (told : Type 0) (k : LinkState) → Writes told k k
 writes_none told k = record { out = []; wrote = wrote_none told k }
@@ -77,11 +77,11 @@ module _ (l : Language Request Moment) (clock_told : Type 0) (c : List Moment) (
   past_none now saw users done none = record { walk = beginning l b.before; happened = nothing_read; gave = λ _. gave_none c; run = begins; saw = saw; consulted = record { history = b.users_before; heard = consults_none; saw = users }; done = done_none l b now done; attending = none; looked = refl; written = refl }
 
   module _ (d : List Moment) (now : Now) (items : List Item) (rest out : List ℕ) where
-    past_bytes : (due : Bool) → Past l clock_told c d b now due items rest out → (bs : List ℕ) → Past l clock_told c d b now due (items ++ bytes bs) (rest ++ bs) out
+    abbrev past_bytes : (due : Bool) → Past l clock_told c d b now due items rest out → (bs : List ℕ) → Past l clock_told c d b now due (items ++ bytes bs) (rest ++ bs) out
     past_bytes due p bs = record { walk = p.walk; happened = bytes_read items p.walk.happenings rest bs p.happened; gave = p.gave; run = p.run; saw = p.saw; consulted = p.consulted; done = p.done; attending = p.attending; looked = p.looked; written = p.written }
 
     module _ (p : Past l clock_told c d b now false items rest out) where
-      past_quiet : IsRest rest → Past l clock_told c d b now (is_some now.attending.watch) (items ++ quiet_item ∷ []) rest out
+      abbrev past_quiet : IsRest rest → Past l clock_told c d b now (is_some now.attending.watch) (items ++ quiet_item ∷ []) rest out
       past_quiet alone = record {
         walk = with_quiet p.walk;
         happened = quiet_read items p.walk.happenings rest p.happened alone;
@@ -165,12 +165,22 @@ module _ (l : Language Request Moment) (clock_told : Type 0) (c : List Moment) (
         done_on : HasDone l b after (walk_on did.passed did.entries)
         done_on = done_unit l b now p.walk p.done after turned.0 u p.consulted.history p.consulted.saw (heard_behind u after.users hears) turned.1 p.saw r m after.attending p.looked did
 
+        -- it ran on to that
+        abbrev walk_then : Walk Request Moment
+        walk_then = walk_on did.passed did.entries
+
+        ran_answered : RunsOn l b.place b.opening.first.fold.table p.walk walk_then
+        ran_answered = run_answered l b.place b.opening.first.fold.table p.walk b.opening p.walk u m r after.attending after.seen refl p.looked did begins
+
+        run_on : Run l b.place b.opening.first.fold.table b.before walk_then
+        run_on = run_more l b.place b.opening.first.fold.table (beginning l b.before) p.walk walk_then p.run ran_answered
+
         past_answered : Past l clock_told c e b after (is_some after.attending.watch) items [] (out ++ l.response m u r)
         past_answered = record {
           walk = walk_on did.passed did.entries;
           happened = unit_ended items p.walk.happenings rest u p.happened is;
           gave = gave_one;
-          run = run_answered l b.place b.opening.first.fold.table b.before b.opening p.walk u m r after.attending after.seen refl p.looked did p.run;
+          run = run_on;
           saw = did.saw;
           consulted = consults;
           done = done_on;
@@ -190,7 +200,7 @@ module _ (l : Language Request Moment) (clock_told : Type 0) (c : List Moment) (
           untaken = [];
           taken = sym (append-nil (p.walk.moments ++ m ∷ []));
           gave = gave_one;
-          run = run_answered l b.place b.opening.first.fold.table b.before b.opening p.walk u m r after.attending after.seen refl p.looked did p.run;
+          run = run_on;
           saw = did.saw;
           consulted = consults;
           done = done_on;
@@ -215,9 +225,12 @@ module _ (l : Language Request Moment) (clock_told : Type 0) (c : List Moment) (
         abbrev looked_on : Walk Request Moment
         looked_on = with_look b.place cursor ms said (with_history (p.walk.history ++ look.0.later) p.walk)
 
+        look_ran : RunsOn l b.place b.opening.first.fold.table p.walk looked_on
+        look_ran = looks (with_history (p.walk.history ++ look.0.later) p.walk) cursor ms said p.looked watched reported
+            (passes_all l b.place b.opening.first.fold.table p.walk p.walk look.0.later (others_unused b.place look.0.later look.0.others) begins)
+
         look_run : Run l b.place b.opening.first.fold.table b.before looked_on
-        look_run = looks (with_history (p.walk.history ++ look.0.later) p.walk) cursor ms said p.looked watched reported
-            (passes_all l b.place b.opening.first.fold.table b.before p.walk look.0.later (others_unused b.place look.0.later look.0.others) p.run)
+        look_run = run_more l b.place b.opening.first.fold.table (beginning l b.before) p.walk looked_on p.run look_ran
 
         look_done : HasDone l b after_look looked_on
         look_done = done_look l b now p.walk p.done after_look turned refl refl p.saw cursor ms said p.looked watched look.0.later (others_unused b.place look.0.later look.0.others) look.0.saw reported
@@ -261,6 +274,12 @@ module _ (l : Language Request Moment) (clock_told : Type 0) (c : List Moment) (
         }
 
 module _ (l : Language Request Moment) (told clock_told : Type 0) (k : LinkState) (c : List Moment) (b : Beginning) where
+  -- How a session goes that had done this and stood so: it ran on, and each byte since was written in its time.
+  pub record Gone (stamped : Stamp → Type 0) (j : LinkState) (e : Reached) (v : Walk Request Moment) (G : Type 0) (walk : G → Walk Request Moment) : Type 0 where
+    pub goes : G
+    pub ran_on : RunsOn l b.place b.opening.first.fold.table v (walk goes)
+    pub timely : IsTimely l (telling told clock_told stamped) (starting k c b) j e (walk goes)
+
   -- nothing has happened
   pub stands_none : (now : Now) (r : Reader) → Saw b.opening now.seen b.before → SawUsers b.users now.users b.users_before → IsDoneBy now b.first → now.attending ≡ begun_by l.first → Holds [] (hand r) → Stands l told clock_told k k c c b now false More r []
   stands_none now r saw users done none holds = record { items = []; rest = []; out = []; exchanged = exchanged_none told k; no_fault = refl; made = holds; past = past_none l clock_told c b now saw users done none }
@@ -294,60 +313,108 @@ module _ (l : Language Request Moment) (told clock_told : Type 0) (k : LinkState
         past = past_cut l clock_told c b d now s.items s.rest s.out s.past u is d2 said.moment said.now said.later reply after turned hears acts said.wrote.part said.wrote.rest said.wrote.split;
       }
 
+      -- what it has done then
+      abbrev then_walk : (sent : Sent) → IsSaid l told clock_told j j2 d d2 sent u reply → Walk Request Moment
+      then_walk sent said = walk_then l clock_told c b d now s.items s.rest s.out s.past u is d2 said.moment said.now said.later reply after turned hears acts
+
       -- each byte of the answer was written in its time
-      pub answered_in_time : (stamped : Stamp → Type 0) (seat : SeatAt) (users : UserSeatAt) (sent : Sent) → IsSaid l told clock_told j j2 d d2 sent u reply → IsAt b seat users → seat.seen ≡ after.seen → users.seen ≡ after.users → seat.stamps ≡ after.stamps → users.stamps ≡ after.users_stamps
-          → stamped (stamp_at d j seat users) → IsTimely l (telling told clock_told stamped) (starting k c b) j (reached j2.written seat.seen users.seen)
-      unfolding past_answered
-      answered_in_time stamped seat users sent said at seen users_seen stamps users_stamps was t n from below =
-          let p = past_answered l clock_told c b d now s.items s.rest s.out s.past u is d2 said.moment said.now said.later reply after turned hears acts in (
-            stamp_at d j seat users,
-            was,
-            record {
-              items = s.items;
-              ahead = ahead;
-              out = s.out;
-              exchanged = s.exchanged;
-              walk = p.walk;
-              rest = [];
-              happened = p.happened;
-              run = p.run;
-              at = at;
-              saw = subst (λ (x : List Gv). Saw b.opening x p.walk.history) (sym seen) p.saw;
-              consulted = subst (λ (x : List Gv). Consulted l b x p.walk.happenings p.walk.attending.user) (sym users_seen) p.consulted;
-              done = done_there l b seat users after p.walk stamps users_stamps users_seen p.done;
-              message = l.response said.moment u reply;
-              says = inl (record { before = s.past.walk.moments; moment = said.moment; unit = u; reply = reply; all = refl; gave = λ ct. (s.past.gave ct, said.now ct); is = refl });
-              written = sym p.written;
-              sent = said.wrote.part;
-              unsent = said.wrote.rest;
-              split = said.wrote.split;
-              goes_on = sent_to told b j j2 seat.seen users.seen said.wrote.part said.wrote.wrote;
-              follows = from;
-              within = in_message told j j2 said.wrote.part said.wrote.wrote t n below;
-            },
-          )
+      module _ (stamped : Stamp → Type 0) (seat : SeatAt) (users : UserSeatAt) (at : IsAt b seat users) (seen : seat.seen ≡ after.seen) (users_seen : users.seen ≡ after.users) (stamps : seat.stamps ≡ after.stamps) (users_stamps : users.stamps ≡ after.users_stamps) (was : stamped (stamp_at d j seat users)) where
+        answered_in_time : (sent : Sent) → (said : IsSaid l told clock_told j j2 d d2 sent u reply) → IsTimely l (telling told clock_told stamped) (starting k c b) j (reached j2.written seat.seen users.seen) (then_walk sent said)
+        unfolding past_answered
+        answered_in_time sent said t n from below =
+            let p = past_answered l clock_told c b d now s.items s.rest s.out s.past u is d2 said.moment said.now said.later reply after turned hears acts in (
+              stamp_at d j seat users,
+              was,
+              record {
+                items = s.items;
+                ahead = ahead;
+                out = s.out;
+                exchanged = s.exchanged;
+                walk = p.walk;
+                rest = [];
+                happened = p.happened;
+                run = p.run;
+                ran_on = begins;
+                at = at;
+                saw = subst (λ (x : List Gv). Saw b.opening x p.walk.history) (sym seen) p.saw;
+                consulted = subst (λ (x : List Gv). Consulted l b x p.walk.happenings p.walk.attending.user) (sym users_seen) p.consulted;
+                done = done_there l b seat users after p.walk stamps users_stamps users_seen p.done;
+                message = l.response said.moment u reply;
+                says = inl (record { before = s.past.walk.moments; moment = said.moment; unit = u; reply = reply; all = refl; gave = λ ct. (s.past.gave ct, said.now ct); is = refl });
+                written = sym p.written;
+                newest = (s.past.walk.messages, refl);
+                sent = said.wrote.part;
+                unsent = said.wrote.rest;
+                split = said.wrote.split;
+                goes_on = sent_to told b j j2 seat.seen users.seen said.wrote.part said.wrote.wrote;
+                follows = from;
+                within = in_message told j j2 said.wrote.part said.wrote.wrote t n below;
+              },
+            )
+
+        abbrev pub Goes_since : (G : Type 0) → (G → Walk Request Moment) → Type 0
+        Goes_since G walk = Gone stamped j (reached j2.written seat.seen users.seen) s.past.walk G walk
+
+        -- the unit ended, whole or too long, and was answered
+        pub goes_on : hand r ≡ [] → IsSaid l told clock_told j j2 d d2 Whole u reply → Goes_since (Stands l told clock_told k j2 c d2 b after (is_some after.attending.watch) More r ahead) (λ x. x.past.walk)
+        unfolding stands_answered past_answered
+        goes_on none said = record {
+          goes = stands_answered none said;
+          ran_on = ran_answered l clock_told c b d now s.items s.rest s.out s.past u is d2 said.moment said.now said.later reply after turned hears acts;
+          timely = answered_in_time Whole said;
+        }
+
+        pub goes_cut : IsSaid l told clock_told j j2 d d2 Sent_cut u reply → Goes_since (Breaks l told clock_told k j2 c d2 b after) (λ x. x.past.walk)
+        unfolding breaks_answered past_cut
+        goes_cut said = record {
+          goes = breaks_answered said;
+          ran_on = ran_answered l clock_told c b d now s.items s.rest s.out s.past u is d2 said.moment said.now said.later reply after turned hears acts;
+          timely = answered_in_time Sent_cut said;
+        }
 
     -- a unit that ended, whole or too long
-    module _ (kind : UnitKind) (ahead : List ℕ) (s : Stands l told clock_told k j c d b now false kind r ahead) (u : Request) (ended : IsUnit s.rest u.input × (hand r ≡ [])) where
-      pub goes_on : (j2 : LinkState) (d2 : List Moment) (reply : Reply) (after : Now) → UnitTurned b.place now after → IsSaid l told clock_told j j2 d d2 Whole u reply
-          → Learns l b now.users now.attending.user u after.users → ((h : List Entry) → Saw b.opening now.seen h → Acts b.opening b.place h now.attending (l.asks now.attending.user u) reply after.attending after.seen) → Stands l told clock_told k j2 c d2 b after (is_some after.attending.watch) More r ahead
-      goes_on j2 d2 reply after turned said hears acts = stands_answered kind ahead s u j2 d2 ended.0 reply after turned hears acts ended.1 said
-
-      pub goes_cut : (j2 : LinkState) (d2 : List Moment) (reply : Reply) (after : Now) → UnitTurned b.place now after → IsSaid l told clock_told j j2 d d2 Sent_cut u reply
-          → Learns l b now.users now.attending.user u after.users → ((h : List Entry) → Saw b.opening now.seen h → Acts b.opening b.place h now.attending (l.asks now.attending.user u) reply after.attending after.seen) → Breaks l told clock_told k j2 c d2 b after
-      goes_cut j2 d2 reply after turned said hears acts = breaks_answered kind ahead s u j2 d2 ended.0 reply after turned hears acts said
+    module _ (kind : UnitKind) (ahead : List ℕ) (s : Stands l told clock_told k j c d b now false kind r ahead) (u : Request) (ended : IsUnit s.rest u.input × (hand r ≡ [])) (stamped : Stamp → Type 0) (e : Reached) (none_written : e.written ≡ j.written) where
+      abbrev Stopped_since : LinkState → List Moment → Now → Type 0
+      Stopped_since j2 d2 after = Gone stamped j e s.past.walk (Halts l told clock_told k j2 c d2 b after) (λ x. x.past.walk)
 
       -- a stop came
       halts_by : (j2 : LinkState) (d2 : List Moment) (after : Now) → j2 ≡ j → d2 ≡ d → StopPast l clock_told c d b after s.items s.out → Halts l told clock_told k j2 c d2 b after
-      halts_by j2 d2 after link clock past = rw (link, clock) (record { items = s.items; ahead = ahead; out = s.out; exchanged = s.exchanged; no_fault = s.no_fault; past = past })
+      halts_by j2 d2 after link clock past = record {
+        items = s.items;
+        ahead = ahead;
+        out = s.out;
+        exchanged = subst (λ (y : LinkState). Exchanged told k y (s.items ++ bytes ahead) s.out) (sym link) s.exchanged;
+        no_fault = ap (λ (y : LinkState). y.write_faults) link ∙ s.no_fault;
+        past = record {
+          walk = past.walk;
+          last = past.last;
+          happened = past.happened;
+          gave = λ ct. subst (λ (y : List Moment). Gives c y past.walk.moments) (sym clock) (past.gave ct);
+          run = past.run;
+          looked = past.looked;
+          history = past.history;
+          stopped = past.stopped;
+          written = past.written;
+        };
+      }
 
       pub goes_stopped : (j2 : LinkState) (d2 : List Moment) (after : Now) → UnitTurned b.place now after → j2 ≡ j → d2 ≡ d → Learns l b now.users now.attending.user u after.users
-          → ((h : List Entry) → Saw b.opening now.seen h → Stops b.opening b.place h now.attending (l.asks now.attending.user u) after.attending after.seen) → Halts l told clock_told k j2 c d2 b after
-      goes_stopped j2 d2 after turned link clock hears stops = halts_by j2 d2 after link clock (past_stopped l clock_told c b d now s.items s.rest s.out s.past u ended.0 after turned hears stops)
+          → ((h : List Entry) → Saw b.opening now.seen h → Stops b.opening b.place h now.attending (l.asks now.attending.user u) after.attending after.seen) → Stopped_since j2 d2 after
+      unfolding halts_by past_stopped
+      goes_stopped j2 d2 after turned link clock hears stops = record {
+        goes = halts_by j2 d2 after link clock (past_stopped l clock_told c b d now s.items s.rest s.out s.past u ended.0 after turned hears stops);
+        ran_on = begins;
+        timely = timely_none l (telling told clock_told stamped) (starting k c b) j e s.past.walk none_written;
+      }
 
       pub goes_unheard : (j2 : LinkState) (d2 : List Moment) (after : Now) → UsersTurned b.place now after → after.stamps ≡ now.stamps → (op : UserOp) → j2 ≡ j → d2 ≡ d → l.wants now.attending.user u ≡ to_do op → IsChanging op → ((h : List UserEntry) → SawUsers b.users now.users h → TurnedBack b.users b.place h after.users)
-          → after.seen ≡ now.seen → after.attending ≡ now.attending → Halts l told clock_told k j2 c d2 b after
-      goes_unheard j2 d2 after turned same op link clock wanted changing back seen attending = halts_by j2 d2 after link clock (past_unheard l clock_told c b d now s.items s.rest s.out s.past u ended.0 after turned same op wanted changing back seen attending)
+          → after.seen ≡ now.seen → after.attending ≡ now.attending → Stopped_since j2 d2 after
+      unfolding halts_by past_unheard
+      goes_unheard j2 d2 after turned same op link clock wanted changing back seen attending = record {
+        goes = halts_by j2 d2 after link clock (past_unheard l clock_told c b d now s.items s.rest s.out s.past u ended.0 after turned same op wanted changing back seen attending);
+        ran_on = begins;
+        timely = timely_none l (telling told clock_told stamped) (starting k c b) j e s.past.walk none_written;
+      }
 
     pub whole_ended : (kind : UnitKind) (ahead : List ℕ) (s : Stands l told clock_told k j c d b now false kind r ahead) → kind ≡ WholeUnit → IsUnit s.rest (whole r.kept) × (hand r ≡ [])
     whole_ended kind ahead s is = subst (λ (x : UnitKind). Made s.rest x r) is s.made
@@ -356,16 +423,24 @@ module _ (l : Language Request Moment) (told clock_told : Type 0) (k : LinkState
     long_ended kind ahead s is = subst (λ (x : UnitKind). Made s.rest x r) is s.made
 
     -- a read was made, and its items stand ahead
-    exchanged_on : (j2 : LinkState) (got : Got) (buffer : List ℕ) → (s : Stands l told clock_told k j c d b now false More r []) → IsRead told j j2 got buffer → Exchanged told k j2 (s.items ++ taken got buffer) s.out
+    pub exchanged_on : (j2 : LinkState) (got : Got) (buffer : List ℕ) → (s : Stands l told clock_told k j c d b now false More r []) → IsRead told j j2 got buffer → Exchanged told k j2 (s.items ++ taken got buffer) s.out
     exchanged_on j2 got buffer s read = exchanged_read told k j j2 s.items s.out got buffer (subst (λ (x : List Item). Exchanged told k j x s.out) (append-nil s.items) s.exchanged) read
 
     -- a piece came
-    pub stands_piece : (j2 : LinkState) (n : ℕ) (buffer piece : List ℕ) → Stands l told clock_told k j c d b now false More r [] → IsRead told j j2 (Bytes n) buffer → piece ≡ take n buffer
+    abbrev pub stands_piece : (j2 : LinkState) (n : ℕ) (buffer piece : List ℕ) → Stands l told clock_told k j c d b now false More r [] → IsRead told j j2 (Bytes n) buffer → piece ≡ take n buffer
         → Stands l told clock_told k j2 c d b now false More r piece
-    stands_piece j2 n buffer piece s read is = rw is (record { items = s.items; rest = s.rest; out = s.out; exchanged = exchanged_on j2 (Bytes n) buffer s read; no_fault = read.write_faults ∙ s.no_fault; made = s.made; past = s.past })
+    stands_piece j2 n buffer piece s read is = record {
+      items = s.items;
+      rest = s.rest;
+      out = s.out;
+      exchanged = subst (λ (p : List ℕ). Exchanged told k j2 (s.items ++ bytes p) s.out) (sym is) (exchanged_on j2 (Bytes n) buffer s read);
+      no_fault = read.write_faults ∙ s.no_fault;
+      made = s.made;
+      past = s.past;
+    }
 
     -- nothing came
-    pub stands_quiet : (j2 : LinkState) (buffer : List ℕ) → Stands l told clock_told k j c d b now false More r [] → IsRead told j j2 Quiet buffer → Stands l told clock_told k j2 c d b now (is_some now.attending.watch) More r []
+    abbrev pub stands_quiet : (j2 : LinkState) (buffer : List ℕ) → Stands l told clock_told k j c d b now false More r [] → IsRead told j j2 Quiet buffer → Stands l told clock_told k j2 c d b now (is_some now.attending.watch) More r []
     stands_quiet j2 buffer s read = record {
       items = s.items ++ quiet_item ∷ [];
       rest = s.rest;
@@ -376,30 +451,29 @@ module _ (l : Language Request Moment) (told clock_told : Type 0) (k : LinkState
       past = past_quiet l clock_told c b d now s.items s.rest s.out s.past (rest_of s.made);
     }
 
-    -- the front of a piece was fed to the reader
-    stands_fed : (ahead : List ℕ) (fed : Fed) (r2 : Reader) → Stands l told clock_told k j c d b now false More r ahead
-        → ((bs : List ℕ) → Holds bs (hand r) → IsFed bs ahead fed r2) → Stands l told clock_told k j c d b now false fed.unit r2 (drop fed.taken ahead)
-    stands_fed ahead fed r2 s feeds =
-        let front : List ℕ = take fed.taken ahead in
-        let back : List ℕ = drop fed.taken ahead in
-        let joined : bytes ahead ≡ bytes front ++ bytes back = ap (λ (x : List ℕ). bytes x) (sym (take-append-drop fed.taken ahead)) ∙ map-append byte front back in
-        let items : s.items ++ bytes ahead ≡ (s.items ++ bytes front) ++ bytes back = ap (λ (x : List Item). s.items ++ x) joined ∙ sym (append_assoc s.items (bytes front) (bytes back)) in
-        record {
-          items = s.items ++ bytes front;
-          rest = s.rest ++ front;
-          out = s.out;
-          exchanged = subst (λ (x : List Item). Exchanged told k j x s.out) items s.exchanged;
-          no_fault = s.no_fault;
-          made = (feeds s.rest s.made).made;
-          past = past_bytes l clock_told c b d now s.items s.rest s.out false s.past front;
-        }
-
     -- the next bytes of a piece were fed to the reader
-    pub stands_on : (piece offer : List ℕ) (at : ℕ) (fed : Fed) (r2 : Reader) → Stands l told clock_told k j c d b now false More r (drop at piece) → offer ≡ drop at piece
-        → ((bs : List ℕ) → Holds bs (hand r) → IsFed bs offer fed r2) → Stands l told clock_told k j c d b now false fed.unit r2 (drop (at + fed.taken) piece)
-    stands_on piece offer at fed r2 s is feeds =
-        subst (λ (x : List ℕ). Stands l told clock_told k j c d b now false fed.unit r2 x) (drop-drop fed.taken at piece)
-        (stands_fed (drop at piece) fed r2 s (λ bs h. subst (λ (x : List ℕ). IsFed bs x fed r2) is (feeds bs h)))
+    module _ (piece offer : List ℕ) (at : ℕ) (fed : Fed) (r2 : Reader) (s : Stands l told clock_told k j c d b now false More r (drop at piece)) where
+      abbrev front : List ℕ
+      front = take fed.taken (drop at piece)
+
+      abbrev back : List ℕ
+      back = drop (at + fed.taken) piece
+
+      pub items_are : s.items ++ bytes (drop at piece) ≡ (s.items ++ bytes front) ++ bytes back
+      items_are =
+          let joined : bytes (drop at piece) ≡ bytes front ++ bytes (drop fed.taken (drop at piece)) = ap (λ (x : List ℕ). bytes x) (sym (take-append-drop fed.taken (drop at piece))) ∙ map-append byte front (drop fed.taken (drop at piece)) in
+          ap (λ (x : List Item). s.items ++ x) (joined ∙ ap (λ (x : List ℕ). bytes front ++ bytes x) (drop-drop fed.taken at piece)) ∙ sym (append_assoc s.items (bytes front) (bytes back))
+
+      abbrev pub stands_on : offer ≡ drop at piece → ((bs : List ℕ) → Holds bs (hand r) → IsFed bs offer fed r2) → Stands l told clock_told k j c d b now false fed.unit r2 back
+      stands_on is feeds = record {
+        items = s.items ++ bytes front;
+        rest = s.rest ++ front;
+        out = s.out;
+        exchanged = subst (λ (x : List Item). Exchanged told k j x s.out) items_are s.exchanged;
+        no_fault = s.no_fault;
+        made = (subst (λ (x : List ℕ). IsFed s.rest x fed r2) is (feeds s.rest s.made)).made;
+        past = past_bytes l clock_told c b d now s.items s.rest s.out false s.past front;
+      }
 
     pub goes_on_is : (how : Result Progress Stopped) (ahead : List ℕ) → how ≡ Ok On → Goes l told clock_told k j c d b now how false r ahead → Stands l told clock_told k j c d b now false More r ahead
     goes_on_is how ahead is goes = subst (λ (x : Result Progress Stopped). Goes l told clock_told k j c d b now x false r ahead) is goes
@@ -429,7 +503,7 @@ module _ (l : Language Request Moment) (told clock_told : Type 0) (k : LinkState
     }
 
     -- it ended with a read that took nothing
-    pub served_nothing : (j2 : LinkState) (got : Got) (buffer : List ℕ) → Stands l told clock_told k j c d b now false More r [] → IsRead told j j2 got buffer → taken got buffer ≡ [] → Served l told clock_told k j2 c d b now
+    abbrev pub served_nothing : (j2 : LinkState) (got : Got) (buffer : List ℕ) → Stands l told clock_told k j c d b now false More r [] → IsRead told j j2 got buffer → taken got buffer ≡ [] → Served l told clock_told k j2 c d b now
     served_nothing j2 got buffer s read none = record {
       items = s.items;
       rest = s.rest;
@@ -440,9 +514,28 @@ module _ (l : Language Request Moment) (told clock_told : Type 0) (k : LinkState
       past = s.past;
     }
 
+    -- whether a look is due is so
+    abbrev due_for : (ahead : List ℕ) (due : Bool) → is_some now.attending.watch ≡ due → Stands l told clock_told k j c d b now (is_some now.attending.watch) More r ahead → Stands l told clock_told k j c d b now due More r ahead
+    due_for ahead due is s =
+        let p = s.past in
+        record {
+          items = s.items;
+          rest = s.rest;
+          out = s.out;
+          exchanged = s.exchanged;
+          no_fault = s.no_fault;
+          made = s.made;
+          past = record { walk = p.walk; happened = p.happened; gave = p.gave; run = p.run; saw = p.saw; consulted = p.consulted; done = p.done; attending = p.attending; looked = p.looked ∙ is; written = p.written };
+        }
+
     -- no look is due where reports are inhibited
-    pub unwatched : (ahead : List ℕ) → now.attending.watch ≡ None → Stands l told clock_told k j c d b now (is_some now.attending.watch) More r ahead → Stands l told clock_told k j c d b now false More r ahead
-    unwatched ahead none s = subst (λ (w : Option ℕ). Stands l told clock_told k j c d b now (is_some w) More r ahead) none s
+    pub unwatched : (ahead : List ℕ) → now.attending.watch ≡ None → (s : Stands l told clock_told k j c d b now (is_some now.attending.watch) More r ahead) → (stamped : Stamp → Type 0) (e : Reached) → e.written ≡ j.written
+        → Gone stamped j e s.past.walk (Stands l told clock_told k j c d b now false More r ahead) (λ x. x.past.walk)
+    unwatched ahead none s stamped e none_written = record {
+      goes = due_for ahead false (ap (λ (w : Option ℕ). is_some w) none) s;
+      ran_on = begins;
+      timely = timely_none l (telling told clock_told stamped) (starting k c b) j e s.past.walk none_written;
+    }
 
     -- the look was made, and its reports were written, or a part of them
     module _ (ahead : List ℕ) (cursor : ℕ) (watch : now.attending.watch ≡ Some cursor) (s : Stands l told clock_told k j c d b now (is_some now.attending.watch) More r ahead)
@@ -450,7 +543,7 @@ module _ (l : Language Request Moment) (told clock_told : Type 0) (k : LinkState
         (look : (h : List Entry) → Saw b.opening now.seen h → LookIs b.opening b.place h cursor seen looked given)
         (j2 : LinkState) (d2 : List Moment) where
       abbrev due_now : Stands l told clock_told k j c d b now true More r ahead
-      due_now = subst (λ (w : Option ℕ). Stands l told clock_told k j c d b now (is_some w) More r ahead) watch s
+      due_now = due_for ahead true (ap (λ (w : Option ℕ). is_some w) watch) s
 
       abbrev past_now : Past l clock_told c d b now true due_now.items due_now.rest due_now.out
       past_now = due_now.past
@@ -486,8 +579,8 @@ module _ (l : Language Request Moment) (told clock_told : Type 0) (k : LinkState
             exchanged = exchanged_wrote told k j j2 (due_now.items ++ bytes ahead) due_now.out x.bytes due_now.exchanged (subst (λ (y : List ℕ). Wrote told j j2 y) whole x.wrote.wrote);
             no_fault = x.wrote.no_fault refl ∙ due_now.no_fault;
             made = due_now.made;
-            past = past_looked l clock_told c b d now due_now.items due_now.rest due_now.out past_now cursor watch looked given seen stamps turned look_now x.taken x.bytes
-                (subst (λ (ms : List Moment). AreReported l.report (notices found cursor) ms x.bytes) all x.reported) d2 x.gave;
+            past = past_looked l clock_told c b d now due_now.items due_now.rest due_now.out past_now cursor watch looked given seen stamps turned look_now (x.taken ++ x.untaken) x.bytes x.reported
+                d2 (λ ct. subst (λ (ms : List Moment). Gives d d2 ms) (sym all) (x.gave ct));
           }
 
       breaks_told : AreTold l told clock_told j j2 d d2 Sent_cut (notices found cursor) → Breaks l told clock_told k j2 c d2 b looked_now
@@ -500,44 +593,62 @@ module _ (l : Language Request Moment) (told clock_told : Type 0) (k : LinkState
         past = past_look_cut l clock_told c b d now due_now.items due_now.rest due_now.out past_now cursor watch looked given seen stamps turned look_now (x.taken ++ x.untaken) x.bytes x.reported (rest_of due_now.made) d2 x.taken x.untaken refl x.gave x.wrote.part x.wrote.rest x.wrote.split;
       }
 
-      pub goes_told : (sent : Sent) (how : Progress) → how ≡ progress_of sent → AreTold l told clock_told j j2 d d2 sent (found_notices looked.since looked.newest given) → Goes l told clock_told k j2 c d2 b looked_now (Ok how) false r ahead
-      goes_told Whole how is x = subst (λ (y : Progress). Goes l told clock_told k j2 c d2 b looked_now (Ok y) false r ahead) (sym is) (stands_told (told_here Whole x))
-      goes_told Sent_cut how is x = subst (λ (y : Progress). Goes l told clock_told k j2 c d2 b looked_now (Ok y) false r ahead) (sym is) (breaks_told (told_here Sent_cut x))
-
       -- each byte of the reports was written in its time
-      pub looked_in_time : (stamped : Stamp → Type 0) (seat : SeatAt) (users : UserSeatAt) (sent : Sent) → AreTold l told clock_told j j2 d d2 sent (found_notices looked.since looked.newest given) → IsAt b seat users → seat.seen ≡ seen → users.seen ≡ now.users → seat.stamps ≡ stamps → users.stamps ≡ now.users_stamps
-          → AreStamped stamped (stamp_at d j seat users) j2 d2 → IsTimely l (telling told clock_told stamped) (starting k c b) j (reached j2.written seat.seen users.seen)
-      unfolding past_look_cut
-      looked_in_time stamped seat users sent told_all at seat_seen users_seen stamps_is users_stamps_is was t n from below =
-          let x = told_here sent told_all in
-          let p = past_look_cut l clock_told c b d now due_now.items due_now.rest due_now.out past_now cursor watch looked given seen stamps turned look_now (x.taken ++ x.untaken) x.bytes x.reported (rest_of due_now.made) d2 x.taken x.untaken refl x.gave x.wrote.part x.wrote.rest x.wrote.split in
-          elim was [
-            | inl none ↦ absurd (let e = ap (λ (y : LinkState). length y.written) none.0 in omega (arith, e, from, below))
-            | inr there ↦ (
-              stamp_at d j seat users,
-              there,
-              record {
-                items = due_now.items;
-                ahead = ahead;
-                out = due_now.out;
-                exchanged = due_now.exchanged;
-                walk = p.walk;
-                rest = due_now.rest;
-                happened = p.happened;
-                run = p.run;
-                at = at;
-                saw = subst (λ (y : List Gv). Saw b.opening y p.walk.history) (sym seat_seen) p.saw;
-                consulted = subst (λ (y : List Gv). Consulted l b y p.walk.happenings p.walk.attending.user) (sym users_seen) p.consulted;
-                done = done_there l b seat users looked_now p.walk stamps_is users_stamps_is users_seen p.done;
-                message = x.bytes;
-                says = inr (record { notices = notices found cursor; moments = x.taken ++ x.untaken; are = x.reported });
-                written = sym (ap (λ (y : List ℕ). y ++ x.bytes) past_now.written ∙ append_assoc past_now.walk.earlier past_now.walk.latest x.bytes);
-                sent = x.wrote.part;
-                unsent = x.wrote.rest;
-                split = x.wrote.split;
-                goes_on = sent_to told b j j2 seat.seen users.seen x.wrote.part x.wrote.wrote;
-                follows = from;
-                within = in_message told j j2 x.wrote.part x.wrote.wrote t n below;
-              },
-            )
-          ]
+      module _ (stamped : Stamp → Type 0) (seat : SeatAt) (users : UserSeatAt) (at : IsAt b seat users) (seat_seen : seat.seen ≡ seen) (users_seen : users.seen ≡ now.users) (stamps_is : seat.stamps ≡ stamps) (users_stamps_is : users.stamps ≡ now.users_stamps) (was : AreStamped stamped (stamp_at d j seat users) j2 d2) where
+        abbrev looked_walk : (sent : Sent) → AreTold l told clock_told j j2 d d2 sent (notices found cursor) → Walk Request Moment
+        looked_walk sent x = looked_on l clock_told c b d now due_now.items due_now.rest due_now.out past_now cursor watch looked given seen stamps turned look_now (x.taken ++ x.untaken) x.bytes x.reported
+
+        looked_in_time : (sent : Sent) → (x : AreTold l told clock_told j j2 d d2 sent (notices found cursor)) → IsTimely l (telling told clock_told stamped) (starting k c b) j (reached j2.written seat.seen users.seen) (looked_walk sent x)
+        unfolding past_look_cut
+        looked_in_time sent x t n from below =
+            let p = past_look_cut l clock_told c b d now due_now.items due_now.rest due_now.out past_now cursor watch looked given seen stamps turned look_now (x.taken ++ x.untaken) x.bytes x.reported (rest_of due_now.made) d2 x.taken x.untaken refl x.gave x.wrote.part x.wrote.rest x.wrote.split in
+            elim was [
+              | inl none ↦ absurd (let e = ap (λ (y : LinkState). length y.written) none.0 in omega (arith, e, from, below))
+              | inr there ↦ (
+                stamp_at d j seat users,
+                there,
+                record {
+                  items = due_now.items;
+                  ahead = ahead;
+                  out = due_now.out;
+                  exchanged = due_now.exchanged;
+                  walk = p.walk;
+                  rest = due_now.rest;
+                  happened = p.happened;
+                  run = p.run;
+                  ran_on = begins;
+                  at = at;
+                  saw = subst (λ (y : List Gv). Saw b.opening y p.walk.history) (sym seat_seen) p.saw;
+                  consulted = subst (λ (y : List Gv). Consulted l b y p.walk.happenings p.walk.attending.user) (sym users_seen) p.consulted;
+                  done = done_there l b seat users looked_now p.walk stamps_is users_stamps_is users_seen p.done;
+                  message = x.bytes;
+                  says = inr (record { notices = notices found cursor; moments = x.taken ++ x.untaken; are = x.reported });
+                  written = sym (ap (λ (y : List ℕ). y ++ x.bytes) past_now.written ∙ append_assoc past_now.walk.earlier past_now.walk.latest x.bytes);
+                  newest = (past_now.walk.messages, refl);
+                  sent = x.wrote.part;
+                  unsent = x.wrote.rest;
+                  split = x.wrote.split;
+                  goes_on = sent_to told b j j2 seat.seen users.seen x.wrote.part x.wrote.wrote;
+                  follows = from;
+                  within = in_message told j j2 x.wrote.part x.wrote.wrote t n below;
+                },
+              )
+            ]
+
+        abbrev Told_since : Progress → Type 0
+        Told_since how = Gone stamped j (reached j2.written seat.seen users.seen) s.past.walk (Goes l told clock_told k j2 c d2 b looked_now (Ok how) false r ahead) (walk_after l told clock_told k j2 c d2 b looked_now (Ok how) false r ahead)
+
+        ran_told : (sent : Sent) → (x : AreTold l told clock_told j j2 d d2 sent (notices found cursor)) → RunsOn l b.place b.opening.first.fold.table past_now.walk (looked_walk sent x)
+        ran_told sent x = look_ran l clock_told c b d now due_now.items due_now.rest due_now.out past_now cursor watch looked given seen stamps turned look_now (x.taken ++ x.untaken) x.bytes x.reported
+
+        told_whole : AreTold l told clock_told j j2 d d2 Whole (notices found cursor) → Told_since On
+        unfolding stands_told past_looked
+        told_whole x = record { goes = stands_told x; ran_on = ran_told Whole x; timely = looked_in_time Whole x }
+
+        told_cut : AreTold l told clock_told j j2 d d2 Sent_cut (notices found cursor) → Told_since Cut
+        unfolding breaks_told past_look_cut
+        told_cut x = record { goes = breaks_told x; ran_on = ran_told Sent_cut x; timely = looked_in_time Sent_cut x }
+
+        pub goes_told : (sent : Sent) (how : Progress) → how ≡ progress_of sent → AreTold l told clock_told j j2 d d2 sent (found_notices looked.since looked.newest given) → Told_since how
+        goes_told Whole how is x = subst Told_since (sym is) (told_whole (told_here Whole x))
+        goes_told Sent_cut how is x = subst Told_since (sym is) (told_cut (told_here Sent_cut x))

@@ -16,7 +16,7 @@ use Rattle.craft_session.specs.declared.attending.Attending.{Attending}
 use Rattle.craft_session.specs.Asks.{Language, Reply, watch_after}
 use Rattle.craft_session.specs.Acting.{Acts}
 use Rattle.craft_session.specs.Happenings.{unit, quiet}
-use Rattle.craft_session.specs.Runs.{Run, Walk, begins, passes, responds, waits, looks, with_entry, with_response}
+use Rattle.craft_session.specs.Runs.{Run, RunsOn, Walk, begins, passes, responds, waits, looks, with_entry, with_response}
 use Rattle.craft_session.specs.Walks.{IsUnused, Serves}
 
 abbrev pub with_history : {U M : Type 0} → List Entry → Walk U M → Walk U M
@@ -34,11 +34,6 @@ module _ {U M : Type 0} (l : Language U M) (place : ℕ) (t : Board) (h : List E
   due_some _ (responds w u m es r none serves run) due = snoc_some w.happenings (unit u)
   due_some _ (waits w none run) due = snoc_some w.happenings quiet
   due_some _ (looks w old ms bytes was watch said run) due = absurd cc
-
-  -- entries that no unit uses
-  pub passes_all : (w : Walk U M) (es : List Entry) → Each (IsUnused place) es → Run l place t h w → Run l place t h (with_history (w.history ++ es) w)
-  passes_all w [] unused run = subst (λ (g : List Entry). Run l place t h (with_history g w)) (sym (append-nil w.history)) run
-  passes_all w (e ∷ es) unused run = subst (λ (g : List Entry). Run l place t h (with_history g w)) (append_assoc w.history (e ∷ []) es) (passes_all (with_entry e w) es unused.1 (passes w e unused.0 run))
 
   -- where reports stand isn't past the newest change
   watched_after : (w : Option ℕ) (newest more cursor : ℕ) (a : Ask) → ((c : ℕ) → w ≡ Some c → c ≤ newest) → newest ≤ more → watch_after w newest a ≡ Some cursor → cursor ≤ more
@@ -61,10 +56,25 @@ module _ {U M : Type 0} (l : Language U M) (place : ℕ) (t : Board) (h : List E
   cursor_within _ (waits w none run) cursor is = cursor_within w run cursor is
   cursor_within _ (looks w old ms bytes due watch said run) cursor is = let e : length (changes_of w.history) ≡ cursor = cc in let y = changes_longer w.history (entry place (Look old) Answered ∷ []) in omega (arith, e, y)
 
+-- a session that has run on to where it stands
+module _ {U M : Type 0} (l : Language U M) (place : ℕ) (t : Board) (v : Walk U M) where
+  -- entries that no unit uses
+  pub passes_all : (w : Walk U M) (es : List Entry) → Each (IsUnused place) es → RunsOn l place t v w → RunsOn l place t v (with_history (w.history ++ es) w)
+  passes_all w [] unused run = subst (λ (g : List Entry). RunsOn l place t v (with_history g w)) (sym (append-nil w.history)) run
+  passes_all w (e ∷ es) unused run = subst (λ (g : List Entry). RunsOn l place t v (with_history g w)) (append_assoc w.history (e ∷ []) es) (passes_all (with_entry e w) es unused.1 (passes w e unused.0 run))
+
   -- a unit was answered
-  pub run_answered : (o : Opening) (w : Walk U M) (u : U) (m : M) (r : Reply) (z : Attending) (seen : List Gv) → t ≡ o.first.fold.table → w.due ≡ false → (a : Acts o place w.history w.attending (l.asks w.attending.user u) r z seen) → Run l place t h w
-      → Run l place t h (with_response u a.entries m (l.response m u r) z (with_history (w.history ++ a.passed) w))
+  pub run_answered : (o : Opening) (w : Walk U M) (u : U) (m : M) (r : Reply) (z : Attending) (seen : List Gv) → t ≡ o.first.fold.table → w.due ≡ false → (a : Acts o place w.history w.attending (l.asks w.attending.user u) r z seen) → RunsOn l place t v w
+      → RunsOn l place t v (with_response u a.entries m (l.response m u r) z (with_history (w.history ++ a.passed) w))
   run_answered o w u m r z seen same none a run =
       let x = with_history (w.history ++ a.passed) w in
-      subst (λ (y : Attending). Run l place t h (with_response u a.entries m (l.response m u r) y x)) (sym a.attending)
+      subst (λ (y : Attending). RunsOn l place t v (with_response u a.entries m (l.response m u r) y x)) (sym a.attending)
       (responds x u m a.entries r none (subst (λ (b : Board). Serves place b x.history (l.asks w.attending.user u) a.entries r) (sym same) a.serves) (passes_all w a.passed a.unused run))
+
+  -- and then further
+  pub run_more : (w z : Walk U M) → RunsOn l place t v w → RunsOn l place t w z → RunsOn l place t v z
+  run_more w _ first begins = first
+  run_more w _ first (passes z e unused run) = passes z e unused (run_more w z first run)
+  run_more w _ first (responds z u m es r none serves run) = responds z u m es r none serves (run_more w z first run)
+  run_more w _ first (waits z none run) = waits z none (run_more w z first run)
+  run_more w _ first (looks z cursor ms bytes due watch said run) = looks z cursor ms bytes due watch said (run_more w z first run)

@@ -15,16 +15,18 @@ use Rattle.craft_session.specs.declared.attending.Attending.{Attending}
 use Rattle.craft_session.specs.declared.desk.Desk.{Desk}
 use Rattle.craft_session.specs.declared.end.Progress.{Progress}
 use Rattle.craft_session.specs.declared.end.SessionEnd.{SessionEnd}
-use Rattle.craft_session.specs.Asks.{Reply}
+use Rattle.craft_session.specs.Asks.{Language, Reply}
+use Rattle.craft_session.specs.Happenings.{Request}
 use Rattle.craft_session.specs.Desks.{IsAnswered, IsReplied}
 use Rattle.craft_session.specs.Meanings.{language, language_for}
 use Rattle.craft_session.specs.Noted.{HasNoted, stood}
 use Rattle.craft_session.specs.Notices.{Notice}
 use Rattle.craft_session.specs.Responses.{Beside}
 use Rattle.craft_session.specs.Seats.{SeatAt, UserSeatAt}
-use Rattle.craft_session.specs.Sessions.{AreTold, Beginning, Goes, IsAt, IsPrompt, IsReported, IsServed, Now, Stands, now_of}
+use Rattle.craft_session.specs.Runs.{RunsOn, Walk}
+use Rattle.craft_session.specs.Sessions.{AreTold, Beginning, Goes, IsAt, IsPrompt, IsReported, IsServed, Now, Stands, now_of, walk_after}
 use Rattle.craft_session.specs.Stamps.{Stamp, stamp_at}
-use Rattle.craft_session.specs.Timely.{InHand, IsTimelyFrom, Reached, Telling, in_hand, reached}
+use Rattle.craft_session.specs.Timely.{InHand, IsTimely, Reached, Start, Telling, in_hand, reached, starting}
 
 -- how a desk stands, with its link and the moments still to come of its clock
 pub record DeskAt : Type 0 where
@@ -68,11 +70,17 @@ abbrev pub reply_to : Option (List ℕ) → Beside → Reply → ReplyTo
 reply_to tag beside reply = record { tag = tag; beside = beside; reply = reply }
 
 module _ (t : Telling) (old new : DeskAt) where
+  -- A session of such a beginning that had done this stands so now. It did more since, and each byte of that was written in its time.
+  pub record GoesInTime (l : Language Request Moment) (b : Start) (before : Walk Request Moment) (how : Result Progress Stopped) (reader : Reader) (ahead : List ℕ) : Type 0 where
+    pub goes : Goes l t.told t.clock_told b.link new.link b.coming new.coming b.beginning (now_at new) how false reader ahead
+    pub ran_on : RunsOn l b.beginning.place b.beginning.opening.first.fold.table before (walk_after l t.told t.clock_told b.link new.link b.coming new.coming b.beginning (now_at new) how false reader ahead goes)
+    pub timely : IsTimely l t b old.link (reached_at new) (walk_after l t.told t.clock_told b.link new.link b.coming new.coming b.beginning (now_at new) how false reader ahead goes)
+
   -- A session that stood so with this in hand goes on so with these bytes ahead, while no unit is being read and no look is due, or it ended.
   abbrev pub GoesTo : InHand → Reader → List ℕ → Result Progress Stopped → Type 0
   GoesTo x reader ahead how = (first : SessionUser) → (k : LinkState) → (c : List Moment) → (b : Beginning) → IsAt b old.seat old.users
-      → Stands (language_for first old.shelf) t.told t.clock_told k old.link c old.coming b (now_at old) x.due x.kind x.reader x.ahead
-      → Goes (language_for first old.shelf) t.told t.clock_told k new.link c new.coming b (now_at new) how false reader ahead
+      → (s : Stands (language_for first old.shelf) t.told t.clock_told k old.link c old.coming b (now_at old) x.due x.kind x.reader x.ahead)
+      → GoesInTime (language_for first old.shelf) (starting k c b) s.past.walk how reader ahead
 
   -- with the same bytes ahead
   abbrev pub GoesBetween : InHand → Result Progress Stopped → Type 0
@@ -81,13 +89,6 @@ module _ (t : Telling) (old new : DeskAt) where
   -- over a piece that was ahead
   abbrev pub GoesOver : List ℕ → Result Progress Stopped → Type 0
   GoesOver piece how = GoesTo (to_read old.attending old.reader piece) new.reader [] how
-
-  -- what it wrote was written in its time
-  abbrev pub TimelyBetween : InHand → Type 0
-  TimelyBetween x = IsTimelyFrom old.shelf t (stamp_of old) x (reached_at new)
-
-  abbrev pub TimelyOver : List ℕ → Type 0
-  TimelyOver piece = TimelyBetween (to_read old.attending old.reader piece)
 
   -- so it was noted
   abbrev pub NotedBetween : (List Note → Type 0) → Type 0

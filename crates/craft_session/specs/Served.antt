@@ -16,7 +16,7 @@ use Rattle.craft_session.specs.Meanings.{language_for}
 use Rattle.craft_session.specs.Seats.{IsSameSeat, IsSameUserSeat, PlaceAt}
 use Rattle.craft_session.specs.Sessions.{IsPrompt, IsServed}
 use Rattle.craft_session.specs.Stamps.{stamp_at}
-use Rattle.craft_session.specs.Timely.{WasTimely, reached, telling}
+use Rattle.craft_session.specs.Timely.{WasTimely, telling}
 use Rattle.craft_session.specs.Idling.{IsIdle}
 use Rattle.craft_session.specs.Waiting.{IsUnattended}
 
@@ -47,7 +47,7 @@ pub record ServedFor {T : Type 0} (world : LentOf T) (first : SessionUser) (old 
   pub place : StaysPlace world.lent.disk.told old.0 new.0
   pub session : let w = world.lent in IsServed (language_for first old.0.shelf) w.link.told w.clock.told (w.link.state old.1) (w.link.state new.1) (w.clock.coming old.2) (w.clock.coming new.2) old.0.seat new.0.seat old.0.users new.0.users end
   pub prompt : let w = world.lent in IsPrompt (language_for first old.0.shelf) w.link.begun w.link.told w.clock.told (w.link.state old.1) (w.link.state new.1) (w.clock.coming old.2) old.0.seat old.0.users
-  pub timely : let w = world.lent in WasTimely (language_for first old.0.shelf) (telling w.link.told w.clock.told w.clock.stamped) (stamp_at (w.clock.coming old.2) (w.link.state old.1) old.0.seat old.0.users) (reached (w.link.state new.1).written new.0.seat.seen new.0.users.seen)
+  pub timely : let w = world.lent in WasTimely (language_for first old.0.shelf) (telling w.link.told w.clock.told w.clock.stamped) (stamp_at (w.clock.coming old.2) (w.link.state old.1) old.0.seat old.0.users) (stamp_at (w.clock.coming new.2) (w.link.state new.1) new.0.seat new.0.users) end
   pub asked : AreEntered old.0.seat old.0.users (world.lent.gate.asked old.3 new.3) new.0.seat.seen new.0.users.seen
   pub unattended : end ≡ Unattended → IsUnattended world first old (world.lent.link.state new.1)
   pub idle : end ≡ Idle → IsIdle world first old (world.lent.link.state new.1)

@@ -233,6 +233,12 @@ module _ (l : Language Request Moment) where
   Goes told clock_told k j c d b now (Ok Cut) due r ahead = Breaks told clock_told k j c d b now
   Goes told clock_told k j c d b now (Err e) due r ahead = Halts told clock_told k j c d b now
 
+  -- what it has done
+  abbrev pub walk_after : (told clock_told : Type 0) (k j : LinkState) (c d : List Moment) (b : Beginning) (now : Now) (how : Result Progress Stopped) (due : Bool) (r : Reader) (ahead : List ℕ) → Goes told clock_told k j c d b now how due r ahead → Walk Request Moment
+  walk_after told clock_told k j c d b now (Ok On) due r ahead x = x.past.walk
+  walk_after told clock_told k j c d b now (Ok Cut) due r ahead x = x.past.walk
+  walk_after told clock_told k j c d b now (Err e) due r ahead x = x.past.walk
+
   -- a session that ended with no message cut: all that was read has happened, or is the rest
   pub record Served (told clock_told : Type 0) (k j : LinkState) (c d : List Moment) (b : Beginning) (now : Now) : Type 0 where
     pub items : List Item
@@ -263,6 +269,17 @@ module _ (l : Language Request Moment) where
   IsSession told clock_told k j c d b now Unattended = ServedAlone told clock_told k j c d b now
   IsSession told clock_told k j c d b now WriteFault = Breaks told clock_told k j c d b now
   IsSession told clock_told k j c d b now Session_stopped = Halts told clock_told k j c d b now
+
+  -- all that it did, but for a last unit that a stop cut
+  abbrev pub walk_of : (told clock_told : Type 0) (k j : LinkState) (c d : List Moment) (b : Beginning) (now : Now) (end : SessionEnd) → IsSession told clock_told k j c d b now end → Walk Request Moment
+  walk_of told clock_told k j c d b now End x = x.past.walk
+  walk_of told clock_told k j c d b now ReadFault x = x.past.walk
+  walk_of told clock_told k j c d b now Spent x = x.past.walk
+  walk_of told clock_told k j c d b now Idle x = x.past.walk
+  walk_of told clock_told k j c d b now Cancelled x = x.served.past.walk
+  walk_of told clock_told k j c d b now Unattended x = x.served.past.walk
+  walk_of told clock_told k j c d b now WriteFault x = x.past.walk
+  walk_of told clock_told k j c d b now Session_stopped x = x.past.walk
 
   -- Between the histories that the seats of a place had seen at the call and have seen at the return: what the session did, whoever attends at the end.
   pub record IsServed (told clock_told : Type 0) (k j : LinkState) (c d : List Moment) (old new : SeatAt) (users then_users : UserSeatAt) (end : SessionEnd) : Type 0 where

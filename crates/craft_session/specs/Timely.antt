@@ -6,21 +6,19 @@ use Rattle.dxc_outside.specs.Items.{Item, bytes}
 use Rattle.dxc_outside.specs.Links.{LinkState, Exchanged}
 use Rattle.dxc_outside.specs.Moments.{moment_now}
 use Rattle.dxc_model.specs.declared.entry.Entry.{Entry}
-use Rattle.dxc_model.specs.declared.user.SessionUser.{SessionUser}
 use Rattle.tl1_text.specs.declared.reader.UnitKind.{UnitKind}
 use Rattle.tl1_text.specs.Reading.{Reader}
-use Rattle.shelf_file.specs.Contents.{Contents}
 use Rattle.user_admin.specs.declared.op.UserEntry.{UserEntry}
 use Rattle.user_admin.specs.Turns.{Saw as SawUsers}
 use Rattle.xc_core.specs.Seeing.{Saw}
 use Rattle.craft_session.specs.declared.attending.Attending.{Attending}
+use Rattle.craft_session.specs.declared.end.SessionEnd.{SessionEnd}
 use Rattle.craft_session.specs.Asks.{Language, Reply}
 use Rattle.craft_session.specs.Happenings.{Happens, Request}
-use Rattle.craft_session.specs.Meanings.{language_for}
 use Rattle.craft_session.specs.Moments.{Gives}
 use Rattle.craft_session.specs.Notices.{AreReported, Notice}
-use Rattle.craft_session.specs.Runs.{Walk, Run}
-use Rattle.craft_session.specs.Sessions.{Beginning, Consulted, HasDone, IsAt, IsFrom, Stands, now_of}
+use Rattle.craft_session.specs.Runs.{Message, Run, RunsOn, Walk, message_here}
+use Rattle.craft_session.specs.Sessions.{Beginning, Consulted, HasDone, IsAt, IsFrom, IsSession, now_of, walk_of}
 use Rattle.craft_session.specs.Stamps.{Stamp}
 
 -- whether link and clock tell their content, and how a session stood where it took a moment
@@ -91,9 +89,9 @@ module _ (l : Language Request Moment) where
     pub are : AreReported l.report notices moments message
 
   -- The byte of this number, of all that the link was written in the end, is one of a message that wasn't begun where the session stood so. All in
-  -- front of it was written by then; and of what the link had been read and the place had seen by then, a session writes all that and then this message.
-  -- What the place had seen is a beginning of what it has seen in the end.
-  pub record IsWrittenBehind (t : Telling) (b : Start) (s : Stamp) (e : Reached) (number : ℕ) : Type 0 where
+  -- front of it was written by then; and of what the link had been read and the place had seen by then, a session writes all that and then this message,
+  -- its newest. From there it ran on to this walk. What the place had seen is a beginning of what it has seen in the end.
+  pub record IsWrittenBehind (t : Telling) (b : Start) (s : Stamp) (e : Reached) (end : Walk Request Moment) (number : ℕ) : Type 0 where
     pub items : List Item
     pub ahead : List ℕ
     pub out : List ℕ
@@ -102,6 +100,7 @@ module _ (l : Language Request Moment) where
     pub rest : List ℕ
     pub happened : Happens items walk.happenings rest
     pub run : Run l b.beginning.place b.beginning.opening.first.fold.table b.beginning.before walk
+    pub ran_on : RunsOn l b.beginning.place b.beginning.opening.first.fold.table walk end
     pub at : IsAt b.beginning s.seat s.users
     pub saw : Saw b.beginning.opening s.seat.seen walk.history
     pub consulted : Consulted l b.beginning s.users.seen walk.happenings walk.attending.user
@@ -109,6 +108,7 @@ module _ (l : Language Request Moment) where
     pub message : List ℕ
     pub says : IsResponseThen t.clock_told b.coming s.coming walk.moments message ⊎ AreReportsThen message
     pub written : walk.earlier ++ walk.latest ≡ out ++ message
+    pub newest : (before : List Message) × (walk.messages ≡ before ++ message_here walk ∷ [])
     -- so much of the message was written
     pub sent : List ℕ
     pub unsent : List ℕ
@@ -117,18 +117,17 @@ module _ (l : Language Request Moment) where
     pub follows : length s.link.written ≤ number
     pub within : number < length s.link.written + length sent
 
-  -- each byte that was written from a state of the link to an end, where the link tells them
-  abbrev pub IsTimely : Telling → Start → LinkState → Reached → Type 0
-  IsTimely t b i e = t.told → (number : ℕ) → length i.written ≤ number → number < length e.written → (s : Stamp) × t.stamped s × IsWrittenBehind t b s e number
+  -- each byte that was written from a state of the link to an end, where the link tells them and the session has done this
+  abbrev pub IsTimely : Telling → Start → LinkState → Reached → Walk Request Moment → Type 0
+  IsTimely t b i e end = t.told → (number : ℕ) → length i.written ≤ number → number < length e.written → (s : Stamp) × t.stamped s × IsWrittenBehind t b s e end number
 
-  -- what a session wrote from this state on to its end, whatever histories its seats had seen then
-  abbrev pub WasTimely : Telling → Stamp → Reached → Type 0
-  WasTimely t s e =
-      (b : Beginning) → IsAt b s.seat s.users → Saw b.opening s.seat.seen b.before → SawUsers b.users s.users.seen b.users_before → IsFrom b s.seat s.users → IsTimely t (starting s.link s.coming b) s.link e
+  -- what a session did from such a beginning on to its end, and that each byte was written in its time
+  pub record SessionInTime (t : Telling) (b : Start) (e : Stamp) (end : SessionEnd) : Type 0 where
+    pub attending : Attending
+    pub session : IsSession l t.told t.clock_told b.link e.link b.coming e.coming b.beginning (now_of e.seat e.users attending) end
+    pub timely : IsTimely t b b.link (reached e.link.written e.seat.seen e.users.seen) (walk_of l t.told t.clock_told b.link e.link b.coming e.coming b.beginning (now_of e.seat e.users attending) end session)
 
--- what a call wrote to its end that a session made which stood so
-abbrev pub IsTimelyFrom : Contents → Telling → Stamp → InHand → Reached → Type 0
-IsTimelyFrom shelf t s x e =
-    (first : SessionUser) (k : LinkState) (c : List Moment) (b : Beginning) → IsAt b s.seat s.users
-    → Stands (language_for first shelf) t.told t.clock_told k s.link c s.coming b (now_of s.seat s.users x.attending) x.due x.kind x.reader x.ahead
-    → IsTimely (language_for first shelf) t (starting k c b) s.link e
+  -- from this state on, whatever histories its seats had seen then
+  abbrev pub WasTimely : Telling → (old new : Stamp) → SessionEnd → Type 0
+  WasTimely t s e end =
+      (b : Beginning) → IsAt b s.seat s.users → Saw b.opening s.seat.seen b.before → SawUsers b.users s.users.seen b.users_before → IsFrom b s.seat s.users → SessionInTime t (starting s.link s.coming b) e end

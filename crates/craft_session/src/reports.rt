@@ -10,7 +10,7 @@ ghost use Rattle.craft_session.specs.Meanings.{language};
 ghost use Rattle.craft_session.specs.Notices.{change, found_notices, lead, numbered};
 ghost use Rattle.craft_session.specs.Responses.{lost_text as text_of_lost};
 ghost use Rattle.craft_session.specs.Gated.{AreStateEntered, NothingAsked};
-ghost use Rattle.craft_session.specs.Gathered.{GoesBetween, ReportedBetween, TimelyBetween, ToldBetween, desk_at, to_report};
+ghost use Rattle.craft_session.specs.Gathered.{GoesBetween, ReportedBetween, ToldBetween, desk_at, to_report};
 ghost use Rattle.craft_session.specs.Noted.{HasLooked};
 ghost use Rattle.craft_session.specs.Seats.{IsSameSeat};
 ghost use Rattle.craft_session.specs.Sessions.{Writes};
@@ -47,11 +47,6 @@ pub fn report<K: Link, C: Timestamps, D: Disk + Drop, U: Disk + Drop, R: Wait>(
         (desk_at (K.state link.old) (C.coming clock.old) desk.old)
         (desk_at (K.state link.new) (C.coming clock.new) desk.new)
         (to_report desk.old.attending r ahead) (Ok result) }
-    ensures timely { (r : Reader) → (ahead : List ℕ) → TimelyBetween
-        (telling K.told C.told C.stamped)
-        (desk_at (K.state link.old) (C.coming clock.old) desk.old)
-        (desk_at (K.state link.new) (C.coming clock.new) desk.new)
-        (to_report desk.old.attending r ahead) }
     ensures entered { AreStateEntered desk.old.seat NothingAsked desk.new.seat.seen }
     ensures looked { HasLooked desk.old.seat desk.new.seat.seen }
     ensures user { desk.new.attending.user ≡ desk.old.attending.user }
@@ -84,11 +79,6 @@ fn report_since<K: Link, C: Timestamps, D: Disk + Drop, U: Disk + Drop, R: Wait>
         (desk_at (K.state link.old) (C.coming clock.old) desk.old)
         (desk_at (K.state link.new) (C.coming clock.new) desk.new)
         (to_report desk.old.attending r ahead) (Ok result) }
-    ensures timely { (r : Reader) → (ahead : List ℕ) → TimelyBetween
-        (telling K.told C.told C.stamped)
-        (desk_at (K.state link.old) (C.coming clock.old) desk.old)
-        (desk_at (K.state link.new) (C.coming clock.new) desk.new)
-        (to_report desk.old.attending r ahead) }
     ensures entered { AreStateEntered desk.old.seat NothingAsked desk.new.seat.seen }
     ensures looked { HasLooked desk.old.seat desk.new.seat.seen }
     ensures user { desk.new.attending.user ≡ desk.old.attending.user }

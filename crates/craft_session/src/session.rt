@@ -6,13 +6,13 @@ ghost use Rattle.tl1_text.specs.Reading.{Holds, hand};
 ghost use Rattle.std.specs.Arc.{arc_value};
 ghost use Rattle.craft_session.specs.Cancelling.{IsHeeding};
 ghost use Rattle.craft_session.specs.Gated.{AreEntered};
-ghost use Rattle.craft_session.specs.Gathered.{GoesOver, NotedBetween, PromptBetween, ServedBetween, TimelyOver, desk_at};
+ghost use Rattle.craft_session.specs.Gathered.{GoesOver, NotedBetween, PromptBetween, ServedBetween, desk_at};
 ghost use Rattle.craft_session.specs.Meanings.{language_for};
 ghost use Rattle.craft_session.specs.Desks.{place_of};
 ghost use Rattle.craft_session.specs.Seats.{IsSameSeat, IsSameUserSeat};
 ghost use Rattle.craft_session.specs.Sessions.{Writes};
 ghost use Rattle.craft_session.specs.Stamps.{stamp_at};
-ghost use Rattle.craft_session.specs.Timely.{WasTimely, reached, telling};
+ghost use Rattle.craft_session.specs.Timely.{WasTimely, telling};
 ghost use Rattle.craft_session.specs.Idling.{IsAwake, IsIdle};
 ghost use Rattle.craft_session.specs.Waiting.{IsLetGo, IsUnattended};
 ghost use Rattle.craft_session.specs.Walks.{begun_by};
@@ -53,10 +53,6 @@ fn serve_piece<K: Link, C: Timestamps, G: Gate, N: Notes, D: Disk + Drop, U: Dis
         (desk_at (K.state link.old) (C.coming clock.old) desk.old)
         (desk_at (K.state link.new) (C.coming clock.new) desk.new)
         (take count piece.old) result }
-    ensures timely { TimelyOver (telling K.told C.told C.stamped)
-        (desk_at (K.state link.old) (C.coming clock.old) desk.old)
-        (desk_at (K.state link.new) (C.coming clock.new) desk.new)
-        (take count piece.old) }
     ensures stopped { RoseOnlyFor (G.stops gate.old) (G.stops gate.new) (IsErr result) }
     ensures asked { AreEntered desk.old.seat desk.old.users.seat (G.asked gate.old gate.new)
         desk.new.seat.seen desk.new.users.seat.seen }
@@ -90,10 +86,6 @@ fn serve_units<K: Link, C: Timestamps, G: Gate, N: Notes, D: Disk + Drop, U: Dis
         (desk_at (K.state link.old) (C.coming clock.old) desk.old)
         (desk_at (K.state link.new) (C.coming clock.new) desk.new)
         piece.now result }
-    ensures timely { TimelyOver (telling K.told C.told C.stamped)
-        (desk_at (K.state link.old) (C.coming clock.old) desk.old)
-        (desk_at (K.state link.new) (C.coming clock.new) desk.new)
-        piece.now }
     ensures stopped { RoseOnlyFor (G.stops gate.old) (G.stops gate.new) (IsErr result) }
     ensures asked { AreEntered desk.old.seat desk.old.users.seat (G.asked gate.old gate.new)
         desk.new.seat.seen desk.new.users.seat.seen }
@@ -149,7 +141,7 @@ pub(crate) fn serve<
     ensures timely { WasTimely (language_for desk.old.attending.user (arc_value desk.old.shelf))
         (telling K.told C.told C.stamped)
         (stamp_at (C.coming clock.old) (K.state link.old) desk.old.seat desk.old.users.seat)
-        (reached (K.state link.new).written desk.new.seat.seen desk.new.users.seat.seen) }
+        (stamp_at (C.coming clock.new) (K.state link.new) desk.new.seat desk.new.users.seat) result }
     ensures hung_up { K.hung_up link.new ≡ K.hung_up link.old }
     ensures end { (result ≡ SessionEnd.End) ↔ IsTrue (K.state link.new).ended }
     ensures all_read { K.told → result ≡ SessionEnd.End → (K.state link.new).left ≡ [] }

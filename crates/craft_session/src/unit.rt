@@ -4,7 +4,7 @@ ghost use Rattle.dxc_causes.specs.Stops.{RoseOnlyFor};
 ghost use Rattle.std.specs.Arc.{arc_value};
 ghost use Rattle.craft_session.specs.Asks.{IsAptAsk};
 ghost use Rattle.craft_session.specs.Gated.{AreEntered};
-ghost use Rattle.craft_session.specs.Gathered.{AnsweredBetween, GoesBetween, NotedBetween, TimelyBetween, desk_at};
+ghost use Rattle.craft_session.specs.Gathered.{AnsweredBetween, GoesBetween, NotedBetween, desk_at};
 ghost use Rattle.craft_session.specs.Hearing.{left};
 ghost use Rattle.craft_session.specs.Meanings.{wants};
 ghost use Rattle.craft_session.specs.Desks.{asker, input_of, put_down, ConsultedBy};
@@ -60,10 +60,6 @@ pub(crate) fn serve_unit<
         (desk_at (K.state link.old) (C.coming clock.old) desk.old)
         (desk_at (K.state link.new) (C.coming clock.new) desk.new)
         (in_hand desk.old.attending false kind desk.old.reader ahead) result }
-    ensures timely { (ahead : List ℕ) → TimelyBetween (telling K.told C.told C.stamped)
-        (desk_at (K.state link.old) (C.coming clock.old) desk.old)
-        (desk_at (K.state link.new) (C.coming clock.new) desk.new)
-        (in_hand desk.old.attending false kind desk.old.reader ahead) }
     ensures stopped { RoseOnlyFor (G.stops gate.old) (G.stops gate.new) (IsErr result) }
     ensures asked { AreEntered desk.old.seat desk.old.users.seat (G.asked gate.old gate.new)
         desk.new.seat.seen desk.new.users.seat.seen }
@@ -100,10 +96,6 @@ fn attend<K: Link, C: Timestamps, G: Gate, N: Notes, D: Disk + Drop, U: Disk + D
         (desk_at (K.state link.old) (C.coming clock.old) desk.old)
         (desk_at (K.state link.new) (C.coming clock.new) desk.new)
         (in_hand desk.old.attending false kind desk.old.reader ahead) result }
-    ensures timely { (ahead : List ℕ) → TimelyBetween (telling K.told C.told C.stamped)
-        (desk_at (K.state link.old) (C.coming clock.old) desk.old)
-        (desk_at (K.state link.new) (C.coming clock.new) desk.new)
-        (in_hand desk.old.attending false kind desk.old.reader ahead) }
     ensures stopped { RoseOnlyFor (G.stops gate.old) (G.stops gate.new) (IsErr result) }
     ensures asked { AreEntered desk.old.seat desk.old.users.seat (G.asked gate.old gate.new)
         desk.new.seat.seen desk.new.users.seat.seen }

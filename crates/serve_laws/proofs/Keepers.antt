@@ -1,5 +1,5 @@
 -- A place that rests at the users does so after each of its sessions, and after all of them nobody has the keeper.
-use Rattle.std.proofs.Common.{◌≡◌, ◌≢◌, ◌<◌, ⊎_elim, ℕ, List, [], ◌∷◌, ◌++◌, Option, Some, None, Box, refl, sym, ◌∙◌, ap, subst}
+use Rattle.std.proofs.Common.{◌≡◌, ◌<◌, ⊎_elim, ℕ, List, [], ◌∷◌, Option, Some, None, Box, refl, sym, ◌∙◌, subst}
 use Rattle.std.specs.declared.alloc.Global.{Global}
 use Rattle.turnstile.specs.Laws.{HasSeen}
 use Rattle.turnstile.specs.Turning.{Each}
@@ -13,7 +13,7 @@ use Rattle.user_admin.specs.declared.shared.SharedUsers.{SharedUsers}
 use Rattle.user_admin.specs.declared.state.UserState.{UserState}
 use Rattle.user_admin.specs.Coding.{mark_coded}
 use Rattle.user_admin.specs.Histories.{Opening}
-use Rattle.user_admin.specs.Marks.{entries_of, holder, holder_after, holder_by, place_of}
+use Rattle.user_admin.specs.Marks.{entries_of, holder, holder_by, place_of}
 use Rattle.user_admin.specs.Operations.{IsFileOf}
 use Rattle.user_admin.specs.Resting.{Rests, SawRest}
 use Rattle.user_admin.specs.Shared.{KeeperIs, SharedFor}

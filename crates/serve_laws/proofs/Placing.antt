@@ -28,14 +28,13 @@ use Rattle.craft_session.specs.Happenings.{Request}
 use Rattle.craft_session.specs.Meanings.{language}
 use Rattle.craft_session.specs.Places.{ArePlaces, Turnstiles, place_at}
 use Rattle.craft_session.specs.Seats.{PlaceAt}
-use Rattle.switch_laws.specs.Element.{ComesTo, Session}
-use Rattle.switch_laws.specs.Laws.{IsExcused, Lives, element}
-use Rattle.switch_laws.specs.Beginnings.{IsPlayedWith}
+use Rattle.switch_laws.specs.Element.{Session}
+use Rattle.switch_laws.specs.Laws.{IsExcused, Lives, Spoken, element}
+use Rattle.switch_laws.specs.Beginnings.{AllSessions, ArePassed, HaveSaid}
 use Rattle.switch_laws.specs.Users.{AreHeard, Hearing, Listens}
 use Rattle.switch_laws.specs.Orders.{ActsAlong, AnyMark, ArePlayedInOrder, IsOrderOf, any_entries, is_used_mark}
 use Rattle.switch_laws.proofs.Along.{in_one_order}
-use Rattle.switch_laws.proofs.Beginning.{played_with}
-use Rattle.switch_laws.proofs.Following.{together}
+use Rattle.switch_laws.proofs.Onward.{passed}
 use Rattle.switch_laws.specs.Moments.{AreUsersThen}
 use Rattle.switch_laws.proofs.HeardThen.{compared, users_then}
 use Rattle.switch_laws.proofs.Listening.{heard_together}
@@ -120,6 +119,10 @@ module _ (w : World) (s : Contents) (o : Opening) (p : UsersOpening) (t : Turnst
     sessions_by k (inl lt) = (place_lived k lt).sessions
     sessions_by k (inr ge) = []
 
+    abbrev spoken_by : (k : ℕ) → (k < 16) ⊎ (16 ≤ k) → List (Spoken Request Moment)
+    spoken_by k (inl lt) = (place_lived k lt).spoken
+    spoken_by k (inr ge) = []
+
     abbrev hearings_by : (k : ℕ) → (k < 16) ⊎ (16 ≤ k) → List (Hearing Request)
     hearings_by k (inl lt) = (place_lived k lt).hearings
     hearings_by k (inr ge) = []
@@ -134,6 +137,13 @@ module _ (w : World) (s : Contents) (o : Opening) (p : UsersOpening) (t : Turnst
 
     pub sessions : ℕ → List (Session Request Moment)
     sessions k = sessions_by k (compared k 16)
+
+    -- their messages, as they came
+    pub spoken : ℕ → List (Spoken Request Moment)
+    spoken k = spoken_by k (compared k 16)
+
+    abbrev pub all_sessions : AllSessions Request Moment
+    all_sessions = record { places = 16; spoken = spoken; sessions = sessions }
 
     pub hearings : ℕ → List (Hearing Request)
     hearings k = hearings_by k (compared k 16)
@@ -180,13 +190,13 @@ module _ (w : World) (s : Contents) (o : Opening) (p : UsersOpening) (t : Turnst
     ]
 
     -- what came of a job, and so much its links had been written by a moment
-    pub record ServedThen (k : ℕ) (ss : List (Session Request Moment)) (hs : List (Hearing Request)) : Type 1 where
+    pub record ServedThen (k : ℕ) (said : List (Spoken Request Moment)) (ss : List (Session Request Moment)) (hs : List (Hearing Request)) : Type 1 where
       pub served : IsServedAt w jobs lefts k ss hs
-      pub by_then : (m : MomentAt) → Allows w.office.link.told w.uses.clock.stamped (language s) o k m → (rest more : List Gv) → served.left.seat.seen ++ rest ≡ m.seen ++ more → WereWrittenThen m w.office.link.state (links_of w served.job served.done served.left served.ran) ss
+      pub by_then : (m : MomentAt) (g : List Entry) → Allows w.office.link.told w.uses.clock.stamped o k g m → HaveSaid said g m.sessions → (rest more : List Gv) → served.left.seat.seen ++ rest ≡ m.seen ++ more → WereWrittenThen m w.office.link.state (links_of w served.job served.done served.left served.ran) ss
 
-    pub served_then : (k : ℕ) → k < 16 → ServedThen k (sessions k) (hearings k)
-    unfolding sessions hearings
-    served_then k lt = elim (compared k 16) as (λ d. ServedThen k (sessions_by k d) (hearings_by k d)) [
+    pub served_then : (k : ℕ) → k < 16 → ServedThen k (spoken k) (sessions k) (hearings k)
+    unfolding spoken sessions hearings
+    served_then k lt = elim (compared k 16) as (λ d. ServedThen k (spoken_by k d) (sessions_by k d) (hearings_by k d)) [
       | inl below ↦ (let x = ran_at k below in let l = place_lived k below in record { served = record { job = x.job; is = x.is; left = x.left; left_is = x.left_is; done = x.done; ran = x.ran; written = l.written; heard = l.heard_in }; by_then = l.written_then })
       | inr ge ↦ absurd (omega (arith, lt, ge))
     ]
@@ -200,9 +210,9 @@ module _ (w : World) (s : Contents) (o : Opening) (p : UsersOpening) (t : Turnst
     none_heard_beyond k le = elim (compared k 16) as (λ d. hearings_by k d ≡ []) [ inl below ↦ absurd (omega (arith, le, below)) | inr ge ↦ refl ]
 
     module _ (history : List Entry) (seen : (k : ℕ) (q : PlaceAt) → slice_get lefts k ≡ Some q → HasSeen entry_coded.code place_of history k q.seat.seen) where
-      lives_each : (k : ℕ) → k < 16 → Lives (language s) k o.first.fold.table (began o.due) (began o.due ++ history) (sessions k)
-      unfolding sessions
-      lives_each k lt = elim (compared k 16) as (λ d. Lives (language s) k o.first.fold.table (began o.due) (began o.due ++ history) (sessions_by k d)) [
+      lives_each : (k : ℕ) → k < 16 → Lives (language s) k o.first.fold.table (began o.due) (began o.due ++ history) (spoken k) (sessions k)
+      unfolding spoken sessions
+      lives_each k lt = elim (compared k 16) as (λ d. Lives (language s) k o.first.fold.table (began o.due) (began o.due ++ history) (spoken_by k d) (sessions_by k d)) [
         | inl below ↦ (let x = ran_at k below in all_along w.disk.told w.uses.clock w.office.link w.uses.gate s o k p (first_at k below) x.ran.served.callers (last_at k below) x.ran.served.served history (place_lived k below) (seen k x.left x.left_is))
         | inr ge ↦ absurd (omega (arith, lt, ge))
       ]
@@ -222,20 +232,10 @@ module _ (w : World) (s : Contents) (o : Opening) (p : UsersOpening) (t : Turnst
       pub nobody_has : Each (λ e. e.place < 16) history → holder None (began o.due ++ history) ≡ None
       nobody_has numbers = nobody_holds 16 (began o.due ++ history) (within_each 16 o.due history (omega arith) numbers) rests_each
 
-      pub played_as_one : IsLegal (rules_of o) (began o.due ++ history) → Each (λ e. e.place < 16) history → (excused : Cause → Bool) → AllByRecursion (IsExcused (λ q. IsTrue (excused q))) (began o.due ++ history)
-          → ComesTo (language s) (LimitBehind o.first) (λ q. IsTrue (excused q)) (element o.first.fold.table (began o.due) (λ k. [])) (element o.first.fold.table (began o.due ++ history) sessions)
-      played_as_one legal numbers excused all =
-          together (language s) (rules_of o) (λ q. IsTrue (excused q)) (began o.due) 16 (began o.due ++ history) sessions (omega arith) (legal, all, within 16 o.due history (omega arith) numbers) lives_each none_beyond
-
-      -- so it is over a beginning of the history, with what one place had done there
-      pub played_then : IsLegal (rules_of o) (began o.due ++ history) → Each (λ e. e.place < 16) history → (excused : Cause → Bool) → AllByRecursion (IsExcused (λ q. IsTrue (excused q))) (began o.due ++ history)
-          → (k : ℕ) → k < 16 → (h more : List Entry) (ss : List (Session Request Moment)) → h ++ more ≡ began o.due ++ history → Lives (language s) k o.first.fold.table (began o.due) h ss
-          → IsPlayedWith (λ all. ComesTo (language s) (LimitBehind o.first) (λ q. IsTrue (excused q)) (element o.first.fold.table (began o.due) (λ p. [])) (element o.first.fold.table h all)) k ss
-      played_then legal numbers excused all k lt h more ss is had =
-          let good : IsLegal (rules_of o) (began o.due ++ history) × AllByRecursion (IsExcused (λ q. IsTrue (excused q))) (began o.due ++ history) × AllByRecursion (λ e. e.place < 16) (began o.due ++ history) = (legal, all, within 16 o.due history (omega arith) numbers) in
-          let along = λ (p : ℕ) (below : p < 16). subst (λ (g : List Entry). Lives (language s) p o.first.fold.table (began o.due) g (sessions p)) (sym is) (lives_each p below) in
-          played_with (language s) (rules_of o) (λ q. IsTrue (excused q)) (began o.due) 16 h more sessions along k lt ss had (omega arith)
-          (subst (λ (g : List Entry). IsLegal (rules_of o) g × AllByRecursion (IsExcused (λ q. IsTrue (excused q))) g × AllByRecursion (λ e. e.place < 16) g) (sym is) good)
+      pub passed_as_one : IsLegal (rules_of o) (began o.due ++ history) → Each (λ e. e.place < 16) history → (excused : Cause → Bool) → AllByRecursion (IsExcused (λ q. IsTrue (excused q))) (began o.due ++ history)
+          → ArePassed (language s) (LimitBehind o.first) (λ q. IsTrue (excused q)) (element o.first.fold.table (began o.due) (λ k. [])) all_sessions o.first.fold.table (began o.due) (began o.due ++ history)
+      passed_as_one legal numbers excused all =
+          passed (language s) (rules_of o) (λ q. IsTrue (excused q)) (began o.due) all_sessions (began o.due ++ history) (omega arith) (legal, all, within 16 o.due history (omega arith) numbers) lives_each none_beyond
 
     module _ (left : List UserMark) (seen : (k : ℕ) (q : PlaceAt) → slice_get lefts k ≡ Some q → HasSeen user_coded.code user_place_of left k q.users.seen) where
       abbrev history : List UserEntry

@@ -1,5 +1,6 @@
 -- How much a link had been written at an earlier moment.
 use Rattle.std.proofs.Common.{◌≡◌, ◌⊎◌, ◌<◌, ◌≤◌, ◌+◌, ℕ, zero, suc, List, [], ◌∷◌, ◌++◌, length, length-append, append-nil, append_assoc, refl, sym, ◌∙◌, ap, subst, inl, inr, arith}
+use Rattle.std.specs.List.{AllByRecursion}
 use Rattle.std.proofs.lemmas.Bool.Decides.{eqb_tells}
 use Rattle.std.proofs.lemmas.List.{map-append}
 use base.Stored.{Gv}
@@ -7,16 +8,20 @@ use Rattle.turnstile.proofs.OneHistory.{Either, beginnings, first_longer, first_
 use Rattle.dxc_outside.specs.declared.clock.Moment.{Moment}
 use Rattle.dxc_outside.specs.Links.{LinkState}
 use Rattle.dxc_model.specs.declared.entry.Entry.{Entry}
-use Rattle.xc_core.specs.Seeing.{Saw, codes, entry_coded}
+use Rattle.dxc_model.specs.declared.entry.Outcome.TheVariants.{Answered}
+use Rattle.dxc_model.specs.declared.op.Op.TheVariants.{Look}
+use Rattle.dxc_model.specs.Tables.{Board}
+use Rattle.xc_core.specs.Seeing.{Saw, codes, entry, entry_coded}
 use Rattle.xc_core.specs.States.{Opening, began}
 use Rattle.craft_session.specs.Asks.{Language}
 use Rattle.craft_session.specs.Happenings.{Request}
 use Rattle.craft_session.specs.Sessions.{Beginning}
 use Rattle.craft_session.specs.Stamps.{Stamp}
 use Rattle.craft_session.specs.Timely.{IsTimely, IsWrittenBehind, reached, starting, telling}
-use Rattle.switch_laws.specs.Beginnings.{IsPlayedWith}
+use Rattle.craft_session.specs.Runs.{Message, RunsOn, Walk, begins, looks, message_here, passes, responds, waits}
+use Rattle.switch_laws.specs.Beginnings.{HasSaid, HaveSaid}
 use Rattle.switch_laws.specs.Element.{Session}
-use Rattle.switch_laws.specs.Laws.{Lives, served, session_in}
+use Rattle.switch_laws.specs.Laws.{Spoken, spoken_in}
 use Rattle.serve_laws.specs.Timing.{MomentAt, WasSaid, WasWrittenSince, WasWrittenThen}
 
 abbrev hd : {A : Type 0} → A → List A → A
@@ -47,17 +52,39 @@ saw_on o seen then_seen h es first then =
     same_rest past then_seen (seen ++ codes es)
     (then.codes_are ∙ map-append entry_coded.code h es ∙ ap (λ (g : List Gv). g ++ codes es) (sym first.codes_are) ∙ append_assoc past seen (codes es))
 
--- What there is of a place at a moment: where link and clock tell what they hold, its pass had seen the codes of a beginning of the history, and the plain
--- element comes to each beginning with what the place's sessions had done there.
-pub record Allows (told : Type 0) (stamped : Stamp → Type 0) (l : Language Request Moment) (o : Opening) (own : ℕ) (m : MomentAt) : Type 0 where
+-- What there is of a place at a moment by this history: where link and clock tell what they hold, its pass had seen the codes of a beginning of the history.
+pub record Allows (told : Type 0) (stamped : Stamp → Type 0) (o : Opening) (own : ℕ) (history : List Entry) (m : MomentAt) : Type 0 where
   pub tells : told
   pub stamps : (s : Stamp) → stamped s → m.stamped s
   pub place : m.place ≡ own
   pub begun : List Entry
   pub later : List Entry
-  pub whole : (began o.due ++ begun) ++ later ≡ m.history
+  pub whole : (began o.due ++ begun) ++ later ≡ history
   pub codes_are : m.seen ≡ codes begun
-  pub plays : (h more : List Entry) (ss : List (Session Request Moment)) → h ++ more ≡ m.history → Lives l own o.first.fold.table (began o.due) h ss → IsPlayedWith (m.comes h) own ss
+
+-- what has run on has more messages
+messages_on : (l : Language Request Moment) (p : ℕ) (t : Board) (v w : Walk Request Moment) → RunsOn l p t v w → (more : List Message) × (w.messages ≡ v.messages ++ more)
+messages_on l p t v _ begins = ([], sym (append-nil v.messages))
+messages_on l p t v _ (passes w e unused run) = messages_on l p t v w run
+messages_on l p t v _ (responds w u m es reply none serves run) =
+    let x = messages_on l p t v w run in
+    let one : List Message = record { behind = w.history ++ es; written = (w.earlier ++ w.latest) ++ l.response m u reply } ∷ [] in
+    (x.0 ++ one, ap (λ (ms : List Message). ms ++ one) x.1 ∙ append_assoc v.messages x.0 one)
+messages_on l p t v _ (waits w none run) = messages_on l p t v w run
+messages_on l p t v _ (looks w cursor ms bytes due watch said run) =
+    let x = messages_on l p t v w run in
+    let one : List Message = record { behind = w.history ++ entry p (Look cursor) Answered ∷ []; written = w.earlier ++ (w.latest ++ bytes) } ∷ [] in
+    (x.0 ++ one, ap (λ (ns : List Message). ns ++ one) x.1 ∙ append_assoc v.messages x.0 one)
+
+-- what holds of two lists holds of each
+pub all_parts : {A : Type 0} (P : A → Type 0) (xs ys : List A) → AllByRecursion P (xs ++ ys) → AllByRecursion P xs × AllByRecursion P ys
+all_parts P [] ys a = (tt, a)
+all_parts P (x ∷ xs) ys a = let r = all_parts P xs ys a.1 in ((a.0, r.0), r.1)
+
+-- of what holds of a session's messages, that of one of them
+of_message : (P : Spoken Request Moment → Type 0) (older : List (Session Request Moment)) (before : List Message) (m : Message) (more : List Message) → AllByRecursion P (spoken_in older ((before ++ m ∷ []) ++ more)) → P (record { older = older; message = m })
+of_message P older [] m more all = all.0
+of_message P older (x ∷ before) m more all = of_message P older before m more all.1
 
 -- each number is of the one kind, or the last that isn't is of the other
 data Parted (P Q : ℕ → Type 0) (from count : ℕ) : Type 0 where
@@ -83,10 +110,10 @@ module _ (P Q : ℕ → Type 0) (from : ℕ) where
         ]
       ]
 
-module _ (told clock_told : Type 0) (stamped : Stamp → Type 0) (l : Language Request Moment) (k j : LinkState) (c : List Moment) (seen users : List Gv) (b : Beginning) (ss : List (Session Request Moment)) (lives : Lives l b.place b.opening.first.fold.table (began b.opening.due) b.before ss)
-    (m : MomentAt) (a : Allows told stamped l b.opening b.place m) (rest more : List Gv) (ends : seen ++ rest ≡ m.seen ++ more) where
+module _ (told clock_told : Type 0) (stamped : Stamp → Type 0) (l : Language Request Moment) (k j : LinkState) (c : List Moment) (seen users : List Gv) (b : Beginning) (end : Walk Request Moment) (ss : List (Session Request Moment))
+    (m : MomentAt) (history : List Entry) (a : Allows told stamped b.opening b.place history m) (says : HaveSaid (spoken_in ss end.messages) history m.sessions) (rest more : List Gv) (ends : seen ++ rest ≡ m.seen ++ more) where
   abbrev Behind : Stamp → ℕ → Type 0
-  Behind s n = IsWrittenBehind l (telling told clock_told stamped) (starting k c b) s (reached j.written seen users) n
+  Behind s n = IsWrittenBehind l (telling told clock_told stamped) (starting k c b) s (reached j.written seen users) end n
 
   -- what the element had said holds the byte of this number
   record HadSaid (n : ℕ) : Type 0 where
@@ -103,8 +130,11 @@ module _ (told clock_told : Type 0) (stamped : Stamp → Type 0) (l : Language R
         let past = codes (began b.opening.due) in
         let h = x.walk.history in
         let front = coded_front h (began b.opening.due ++ a.begun) d (ap (λ (g : List Gv). g ++ d) (sym x.saw.codes_are) ∙ append_assoc past s.seat.seen d ∙ ap (λ (g : List Gv). past ++ g) (sym is ∙ a.codes_are) ∙ sym (map-append entry_coded.code (began b.opening.due) a.begun)) in
-        let whole : h ++ (front.0 ++ a.later) ≡ m.history = sym (append_assoc h front.0 a.later) ∙ ap (λ (g : List Entry). g ++ a.later) front.1 ∙ a.whole in
-        let played = a.plays h (front.0 ++ a.later) (session_in x.walk ∷ ss) whole (served b.before ss x.walk x.run lives) in
+        let whole : h ++ (front.0 ++ a.later) ≡ history = sym (append_assoc h front.0 a.later) ∙ ap (λ (g : List Entry). g ++ a.later) front.1 ∙ a.whole in
+        let short : length h ≤ length history = let q = ap length whole in let f = length-append h (front.0 ++ a.later) in omega (arith, q, f) in
+        let later = messages_on l b.place b.opening.first.fold.table x.walk end x.ran_on in
+        let are : end.messages ≡ (x.newest.0 ++ message_here x.walk ∷ []) ++ later.0 = later.1 ∙ ap (λ (ms : List Message). ms ++ later.0) x.newest.1 in
+        let said = of_message (λ y. length y.message.behind ≤ length history → HasSaid y m.sessions) ss x.newest.0 (message_here x.walk) later.0 (subst (λ (ms : List Message). HaveSaid (spoken_in ss ms) history m.sessions) are says) short in
         let went = x.goes_on.written a.tells in
         let before : s.link.written ≡ k.written ++ x.out = x.exchanged.written a.tells in
         let joined : (s.link.written ++ x.sent) ≡ k.written ++ (x.out ++ x.sent) = ap (λ (bs : List ℕ). bs ++ x.sent) before ∙ append_assoc k.written x.out x.sent in
@@ -113,15 +143,11 @@ module _ (told clock_told : Type 0) (stamped : Stamp → Type 0) (l : Language R
           since = went.0;
           all = went.1 ∙ ap (λ (bs : List ℕ). bs ++ went.0) joined ∙ append_assoc k.written (x.out ++ x.sent) went.0;
           said = record {
-            earlier = h;
-            later = front.0 ++ a.later;
-            whole = whole;
-            sessions = played.sessions;
-            comes = played.comes;
-            session = session_in x.walk;
-            newest = ap played.sessions a.place ∙ played.own_sessions;
-            unsaid = x.unsent;
-            said = x.written ∙ ap (λ (bs : List ℕ). x.out ++ bs) x.split ∙ sym (append_assoc x.out x.sent x.unsent);
+            newer = said.newer;
+            session = said.session;
+            there = said.there;
+            unsaid = x.unsent ++ said.unsaid;
+            said = said.said ∙ ap (λ (bs : List ℕ). bs ++ said.unsaid) (x.written ∙ ap (λ (bs : List ℕ). x.out ++ bs) x.split ∙ sym (append_assoc x.out x.sent x.unsent)) ∙ append_assoc (x.out ++ x.sent) x.unsent said.unsaid;
           };
           within = (let e = ap length (sym joined) in let f = length-append s.link.written x.sent in let w = x.within in omega (arith, e, f, w));
         }
@@ -142,7 +168,7 @@ module _ (told clock_told : Type 0) (stamped : Stamp → Type 0) (l : Language R
         let since = codes x2.entries ++ rest in
         by_seen there since (beginnings s.seat.seen since m.seen more (sym (append_assoc s.seat.seen (codes x2.entries) rest) ∙ ap (λ (g : List Gv). g ++ rest) (sym on) ∙ ends))
 
-  module _ (timely : IsTimely l (telling told clock_told stamped) (starting k c b) k (reached j.written seen users)) (out : List ℕ) (all : j.written ≡ k.written ++ out) where
+  module _ (timely : IsTimely l (telling told clock_told stamped) (starting k c b) k (reached j.written seen users) end) (out : List ℕ) (all : j.written ≡ k.written ++ out) where
     count : length j.written ≡ length k.written + length out
     count = ap length all ∙ length-append k.written out
 

@@ -1,7 +1,7 @@
 -- The headline, of its parts.
 use Rattle.std.specs.Prelude.{IsTrue}
 use Rattle.std.specs.List.{AllByRecursion}
-use Rattle.std.proofs.Common.{◌≡◌, ◌<◌, ◌+◌, ℕ, Bool, arith, List, [], ◌∷◌, ◌++◌, append-nil, append_assoc, length, map, Option, Some, ◌∙◌, ap, refl, subst, sym}
+use Rattle.std.proofs.Common.{◌≡◌, ◌<◌, ◌+◌, ℕ, Bool, arith, List, [], ◌∷◌, ◌++◌, append-nil, append_assoc, length, length-append, map, Option, Some, ◌∙◌, ap, refl, subst, sym}
 use Rattle.std.specs.List.{slice_get}
 use mathlib.Core.Option.{some as some_of}
 use lib.ListN.{get_elem?}
@@ -32,9 +32,9 @@ use Rattle.craft_session.specs.Happenings.{Request}
 use Rattle.craft_session.specs.Meanings.{language}
 use Rattle.craft_session.specs.Places.{HasPlaces}
 use Rattle.craft_session.specs.Seats.{PlaceAt}
-use Rattle.switch_laws.specs.Beginnings.{IsPlayedWith}
-use Rattle.switch_laws.specs.Element.{ComesTo, Session, Turn}
-use Rattle.switch_laws.specs.Laws.{IsExcused, Lives}
+use Rattle.switch_laws.specs.Beginnings.{ArePassed, IsPassed}
+use Rattle.switch_laws.specs.Element.{Turn}
+use Rattle.switch_laws.specs.Laws.{IsExcused}
 use Rattle.switch_laws.specs.Moments.{changed}
 use Rattle.switch_laws.specs.Orders.{IsOrderOf}
 use Rattle.switch_laws.proofs.Passing.{moment_of, table_changed}
@@ -42,17 +42,16 @@ use Rattle.dxc_jobs.specs.declared.frames_left.FramesLeft.{FramesLeft}
 use Rattle.dxc_jobs.specs.Begun.{AreRan}
 use Rattle.dxc_jobs.specs.Leaves.{left_by}
 use Rattle.craft_server.specs.Serving.{SiteAt}
-use Rattle.serve_laws.specs.Headline.{IsEarlier, IsEnd, IsHitlessFabric, IsOneElement, IsOneOrder, IsOrder, LiesFor, LinksThen, Lying, Sessions, UsersLying, WasThen, behind, moment_at, opened, seen_by, table_seen, users_seen, users_seen_by}
+use Rattle.serve_laws.specs.Headline.{IsEarlier, IsEnd, IsHitlessFabric, IsOneElement, IsOrder, IsTimedOrder, LiesFor, Lying, Sessions, UsersLying, WasThen, behind, moment_at, opened, seen_by, table_seen, users_seen, users_seen_by}
 use Rattle.serve_laws.specs.Jobs.{Job, Jobs, Ran, World, links_of}
-use Rattle.serve_laws.specs.Timing.{MomentAt}
+use Rattle.serve_laws.specs.Timing.{WereWrittenThen}
 use Rattle.serve_laws.proofs.Earlier.{SeesOn, earlier}
 use Rattle.serve_laws.proofs.Keepers.{keeper_home}
 use Rattle.serve_laws.proofs.Leaving.{brought_home, leaves_changes}
 use Rattle.serve_laws.proofs.Ordered.{ordered, passes}
 use Rattle.serve_laws.proofs.Owning.{all_own, core_of}
-use Rattle.serve_laws.proofs.Placing.{get_map, heard_as_one, heard_then, hearings, map_length, nobody_has, nobody_keeps_it, acts_each, played_as_one, played_in_order, played_then, ran_length, served_then, sessions, took, took_then, took_used, used}
+use Rattle.serve_laws.proofs.Placing.{get_map, heard_as_one, heard_then, hearings, map_length, nobody_has, nobody_keeps_it, acts_each, all_sessions, passed_as_one, played_in_order, ran_length, served_then, sessions, took, took_then, took_used, used}
 use Rattle.serve_laws.proofs.Standbys.{StandbyLaws}
-use Rattle.serve_laws.proofs.Timing.{Allows}
 use Rattle.serve_laws.proofs.Resting.{at_home, begun, count, get_below, history, lying, has_one, numbers, opening_is, seen_at, stand, view_at}
 
 module _ (w : World) (laws : StandbyLaws w.disk.told w.disk.state) (s : Contents) (o : Opening) (p : UsersOpening) (jobs : List (Job w)) (lefts : List PlaceAt) (seats : List FramesLeft) (sixteen : length jobs ≡ 16) (has : HasPlaces s o p 16 (map (λ (j : Job w). j.place) jobs)) (ran : AreRan (left_by (Ran w)) jobs lefts) (e : IsEnd w o p has.turnstiles lefts seats) where
@@ -141,23 +140,38 @@ module _ (w : World) (laws : StandbyLaws w.disk.told w.disk.state) (s : Contents
         let moment = moment_of (language s) (LimitBehind o.first) (λ q. IsTrue (excused q)) (opened w s o) ts (behind w s o h ss) (changes_of m.allowed.history) (changes_of before.0) played split in
         record { earlier = m.allowed.history; later = before.0; whole = before.1; lies = lay_for; moment = moment; same_table = moment.table_is ∙ table_was }
 
-    -- and what links had been written then
-    abbrev all_sessions : Sessions w
-    all_sessions = sessions w s o p has.turnstiles jobs lefts sixteen has.each ran
+  -- one order of turns, which passes each beginning of the history
+  module _ (excused : Cause → Bool) (all : AllByRecursion (IsExcused (λ q. IsTrue (excused q))) (began o.due ++ h)) where
+    abbrev ss : Sessions w
+    ss = sessions w s o p has.turnstiles jobs lefts sixteen has.each ran
 
-    module _ (excused : Cause → Bool) (all : AllByRecursion (IsExcused (λ q. IsTrue (excused q))) (began o.due ++ h)) (k : ℕ) (lt : k < 16) (v : View) (at : get_elem? z.views (k + 1) ≡ some_of v) where
-      abbrev moment : MomentAt
-      moment = moment_at w s o excused m.allowed.history k v.seen
+    by_turns : ArePassed (language s) (LimitBehind o.first) (λ q. IsTrue (excused q)) (opened w s o) (all_sessions w s o p has.turnstiles jobs lefts sixteen has.each ran) o.first.fold.table (began o.due) (began o.due ++ h)
+    by_turns = passed_as_one w s o p has.turnstiles jobs lefts sixteen has.each ran h seen stands.legal few excused all
 
-      plays_then : (g more : List Entry) (ss : List (Session Request Moment)) → g ++ more ≡ moment.history → Lives (language s) k o.first.fold.table (began o.due) g ss → IsPlayedWith (moment.comes g) k ss
-      plays_then g more ss is had =
-          let whole = sym (append_assoc g more before.0) ∙ ap (λ (es : List Entry). es ++ before.0) is ∙ append_assoc (began o.due) m.allowed.history before.0 ∙ ap (λ (es : List Entry). began o.due ++ es) before.1 in
-          played_then w s o p has.turnstiles jobs lefts sixteen has.each ran h seen stands.legal few excused all k lt g (more ++ before.0) ss whole had
+    passes_at : (front back : List Entry) → front ++ back ≡ h → IsPassed (language s) (LimitBehind o.first) (λ q. IsTrue (excused q)) (opened w s o) by_turns.turns (all_sessions w s o p has.turnstiles jobs lefts sixteen has.each ran) o.first.fold.table (began o.due ++ front)
+    passes_at front back is =
+        by_turns.passes (began o.due ++ front) back (ap (λ (g : List Entry). began o.due ++ g) (sym is) ∙ sym (append_assoc (began o.due) front back)) (let k = length-append (began o.due) front in omega (arith, k))
 
-      allows : w.office.link.told → Allows w.office.link.told w.uses.clock.stamped (language s) o k moment
-      allows told =
+    abbrev timed_order : IsTimedOrder w s o excused e.key lefts h ss
+    timed_order = record {
+      one = record { turns = by_turns.turns; played = by_turns.played; moments = λ z m. was_then z m excused ss by_turns.turns by_turns.played };
+      passes = λ front back is. let x = passes_at front back is in record { later = x.later; earlier = x.earlier; order = x.order; sessions = x.sessions; played = x.played; begun = x.begun };
+    }
+
+    -- and what links had been written at an earlier moment
+    module _ (z : TableState (Option (Lying w)) View) (m : IsEarlier w e.key lefts z) (k : ℕ) (lt : k < 16) (v : View) (at : get_elem? z.views (k + 1) ≡ some_of v) where
+      abbrev was : WasThen w s o excused by_turns.turns h ss z
+      was = was_then z m excused ss by_turns.turns by_turns.played
+
+      links_then : w.office.link.told → let x = (served_then w s o p has.turnstiles jobs lefts sixteen has.each ran k lt).served in WereWrittenThen (moment_at w s o k v.seen ((passes_at was.earlier was.later was.whole).sessions k)) w.office.link.state (links_of w x.job x.done x.left x.ran) (ss k)
+      unfolding was_then
+      links_then told =
+          let y = served_then w s o p has.turnstiles jobs lefts sixteen has.each ran k lt in
+          let more = m.sees_on k y.served.left v y.served.left_is at in
           let f = (m.allowed.each (k + 1) v at).front in
-          record {
+          let then_passed = passes_at was.earlier was.later was.whole in
+          y.by_then (moment_at w s o k v.seen (then_passed.sessions k)) (began o.due ++ was.earlier)
+          (record {
             tells = told;
             stamps = λ x there. there;
             place = refl;
@@ -165,23 +179,8 @@ module _ (w : World) (laws : StandbyLaws w.disk.told w.disk.state) (s : Contents
             later = f.later;
             whole = append_assoc (began o.due) f.begun f.later ∙ ap (λ (es : List Entry). began o.due ++ es) f.whole;
             codes_are = f.seen;
-            plays = plays_then;
-          }
-
-      links_then : w.office.link.told → let x = (served_then w s o p has.turnstiles jobs lefts sixteen has.each ran k lt).served in LinksThen w s o excused h z k v (links_of w x.job x.done x.left x.ran) (all_sessions k)
-      links_then told =
-          let y = served_then w s o p has.turnstiles jobs lefts sixteen has.each ran k lt in
-          let more = m.sees_on k y.served.left v y.served.left_is at in
-          record {
-            earlier = m.allowed.history;
-            later = before.0;
-            whole = before.1;
-            lies = lay_for;
-            written = y.by_then moment (allows told) [] more.0 (append-nil y.served.left.seat.seen ∙ more.1);
-          }
-
-  one_order : (excused : Cause → Bool) (ss : Sessions w) → ComesTo (language s) (LimitBehind o.first) (λ q. IsTrue (excused q)) (opened w s o) (behind w s o h ss) → IsOneOrder w s o excused e.key lefts h ss
-  one_order excused ss c = record { turns = c.0; played = c.1; moments = λ z m. was_then z m excused ss c.0 c.1 }
+          })
+          (then_passed.said k lt) [] more.0 (append-nil y.served.left.seat.seen ∙ more.1)
 
   -- one order of both histories' entries
   in_order : (order : List AnyEntry) × IsOrderOf h (entries_of g) 16 (used w s o p has.turnstiles jobs lefts sixteen has.each ran) order
@@ -217,8 +216,8 @@ module _ (w : World) (laws : StandbyLaws w.disk.told w.disk.state) (s : Contents
         sessions = ss;
         hearings = hearings w s o p has.turnstiles jobs lefts sixteen has.each ran;
         each = λ k lt. (served_then w s o p has.turnstiles jobs lefts sixteen has.each ran k lt).served;
-        played = λ excused all. one_order excused ss (played_as_one w s o p has.turnstiles jobs lefts sixteen has.each ran h seen stands.legal few excused all);
-        written_before = λ told excused all z m k lt v at. links_then z m excused all k lt v at told;
+        played = λ excused all. timed_order excused all;
+        written_before = λ told excused all z m k lt v at. links_then excused all z m k lt v at told;
         used = used w s o p has.turnstiles jobs lefts sixteen has.each ran;
         acted = acts_each w s o p has.turnstiles jobs lefts sixteen has.each ran g saw_users h seen;
         order = in_order.0;

@@ -37,9 +37,9 @@ use Rattle.craft_session.specs.Happenings.{Request}
 use Rattle.craft_session.specs.Meanings.{language}
 use Rattle.craft_session.specs.Places.{Turnstiles}
 use Rattle.craft_session.specs.Seats.{PlaceAt}
-use Rattle.switch_laws.specs.Element.{ComesTo, Element, IsPlayed, Session, Turn}
+use Rattle.switch_laws.specs.Element.{Element, IsPlayed, Session, Turn}
 use Rattle.switch_laws.specs.Laws.{IsExcused, element}
-use Rattle.switch_laws.specs.Moments.{AreUsersThen, IsMoment}
+use Rattle.switch_laws.specs.Moments.{AreBegun, AreUsersThen, IsBegun, IsMoment}
 use Rattle.switch_laws.specs.Orders.{ActsAlong, ArePlayedInOrder, IsOrderOf}
 use Rattle.switch_laws.specs.Users.{AreHeard, Hearing}
 use Rattle.dxc_jobs.specs.declared.frames_left.FramesLeft.{FramesLeft}
@@ -127,30 +127,30 @@ module _ (w : World) where
       pub moment : IsMoment (language s) (LimitBehind o.first) (λ q. IsTrue (excused q)) opened ts (behind history sessions) (changes_of earlier) (changes_of later)
       pub same_table : moment.element.table ≡ lies.lying.state.value.table
 
-    -- a place at a moment, where this was the history and its pass had seen this
-    abbrev pub moment_at : (Cause → Bool) → List Entry → (place : ℕ) → (seen : List Gv) → MomentAt
-    moment_at excused earlier place seen = record {
-      comes = λ h sessions. ComesTo (language s) (LimitBehind o.first) (λ q. IsTrue (excused q)) opened (element o.first.fold.table h sessions);
-      stamped = w.uses.clock.stamped;
-      history = began o.due ++ earlier;
-      place = place;
-      seen = seen;
-    }
+    -- Of these turns, by which the sessions came to those: the moment at which the element had made this history. Each session had done a beginning of what it
+    -- did.
+    pub record WasPlayed (excused : Cause → Bool) (ts : List (Turn Request Moment)) (end : Sessions) (history : List Entry) : Type 0 where
+      pub later : List (Turn Request Moment)
+      pub earlier : List (Turn Request Moment)
+      pub order : ts ≡ later ++ earlier
+      pub sessions : Sessions
+      pub played : IsOrder excused earlier (behind history sessions)
+      pub begun : (p : ℕ) → AreBegun IsBegun (sessions p) (end p)
 
-    -- At that moment the history was a beginning of this one, and what lay in the turnstile stood for it. Of these links of a place no more had been written
-    -- than what the plain element had said over a beginning of that history.
-    pub record LinksThen (excused : Cause → Bool) (history : List Entry) (z : TableState (Option Lying) View) (place : ℕ) (v : View) (links : List (w.office.Link × w.office.Link)) (ss : List (Session Request Moment)) : Type 0 where
-      pub earlier : List Entry
-      pub later : List Entry
-      pub whole : earlier ++ later ≡ history
-      pub lies : LiesFor o earlier z
-      pub written : WereWrittenThen (moment_at excused earlier place v.seen) w.office.link.state links ss
+    -- a place at a moment, where its pass had seen this, and the element had these sessions of it
+    abbrev pub moment_at : (place : ℕ) → (seen : List Gv) → List (Session Request Moment) → MomentAt
+    moment_at place seen ss = record { stamped = w.uses.clock.stamped; place = place; seen = seen; sessions = ss }
 
     -- An order of turns by which the element comes to the history, and what it was at each earlier moment.
     pub record IsOneOrder (excused : Cause → Bool) (key : Opened (Box (State w.Disk) Global)) (lefts : List PlaceAt) (history : List Entry) (sessions : Sessions) : Type 0 where
       pub turns : List (Turn Request Moment)
       pub played : IsOrder excused turns (behind history sessions)
       pub moments : (z : TableState (Option Lying) View) → IsEarlier key lefts z → WasThen excused turns history sessions z
+
+    -- One that passes each beginning of the history: a turn stands in it behind no more of the table's history than its place had seen.
+    pub record IsTimedOrder (excused : Cause → Bool) (key : Opened (Box (State w.Disk) Global)) (lefts : List PlaceAt) (history : List Entry) (sessions : Sessions) : Type 0 where
+      pub one : IsOneOrder excused key lefts history sessions
+      pub passes : (earlier later : List Entry) → earlier ++ later ≡ history → WasPlayed excused one.turns sessions earlier
 
   -- One history of the table and one of the users, for which those states stand: the plain element on what was opened comes to the one, and one list of users
   -- to the other; the links that came to each place were written what the element writes its sessions.
@@ -171,11 +171,13 @@ module _ (w : World) where
     pub sessions : Sessions
     pub hearings : ℕ → List (Hearing Request)
     pub each : (k : ℕ) → k < 16 → IsServedAt w jobs lefts k (sessions k) (hearings k)
-    pub played : (excused : Cause → Bool) → AllByRecursion (IsExcused (λ q. IsTrue (excused q))) (began o.due ++ history) → IsOneOrder s o excused key lefts history sessions
-    -- where links tell what they are written, so much each had been written at each earlier moment
-    pub written_before : w.office.link.told → (excused : Cause → Bool) → AllByRecursion (IsExcused (λ q. IsTrue (excused q))) (began o.due ++ history)
-        → (z : TableState (Option Lying) View) → IsEarlier key lefts z → (k : ℕ) → (lt : k < 16) → (v : View) → get_elem? z.views (k + 1) ≡ some v
-        → let x = each k lt in LinksThen s o excused history z k v (links_of w x.job x.done x.left x.ran) (sessions k)
+    pub played : (excused : Cause → Bool) → AllByRecursion (IsExcused (λ q. IsTrue (excused q))) (began o.due ++ history) → IsTimedOrder s o excused key lefts history sessions
+    -- Where links tell what they are written: in that order, cut where the element had made the history of an earlier moment, it had said what each link had been
+    -- written by then.
+    pub written_before : w.office.link.told → (excused : Cause → Bool) (all : AllByRecursion (IsExcused (λ q. IsTrue (excused q))) (began o.due ++ history))
+        → (z : TableState (Option Lying) View) (m : IsEarlier key lefts z) → (k : ℕ) → (lt : k < 16) → (v : View) → get_elem? z.views (k + 1) ≡ some v
+        → let x = each k lt in let y = played excused all in let was = y.one.moments z m in
+        WereWrittenThen (moment_at s o k v.seen ((y.passes was.earlier was.later was.whole).sessions k)) w.office.link.state (links_of w x.job x.done x.left x.ran) (sessions k)
     -- of each place the entries of both that it used, as it took them
     pub used : ℕ → List AnyEntry
     pub acted : (k : ℕ) → k < 16 → ActsAlong (language s) k o.first.fold.table p (began o.due) (began o.due ++ history) users_history (used k) (sessions k)

@@ -3,30 +3,24 @@ use Rattle.std.specs.Prelude.{◌≡◌, ◌⊎◌, ◌≤◌, ◌<◌, ℕ, Lis
 use base.Stored.{Gv}
 use Rattle.dxc_outside.specs.declared.clock.Moment.{Moment}
 use Rattle.dxc_outside.specs.Links.{LinkState}
-use Rattle.dxc_model.specs.declared.entry.Entry.{Entry}
 use Rattle.craft_session.specs.Happenings.{Request}
 use Rattle.craft_session.specs.Stamps.{Stamp}
 use Rattle.switch_laws.specs.Element.{Session}
 
--- A moment at a place: to which histories the plain element comes, with which sessions of all places, and what it is to take a moment of a message; then the
--- history by this moment, the number of the place, and what its pass had seen.
+-- A moment at a place: what it is to take a moment of a message, the number of the place, what its pass had seen, and what the plain element had of its
+-- sessions then, the newest first.
 pub record MomentAt : Type 1 where
-  pub comes : List Entry → (ℕ → List (Session Request Moment)) → Type 0
   pub stamped : Stamp → Type 0
-  pub history : List Entry
   pub place : ℕ
   pub seen : List Gv
+  pub sessions : List (Session Request Moment)
 
 module _ (m : MomentAt) where
-  -- By some order of turns over a beginning of the history then, the plain element had said this to the newest session of the place, which came after these.
+  -- the plain element had said this then to the session that came after these
   pub record WasSaid (older : List (Session Request Moment)) (out : List ℕ) : Type 0 where
-    pub earlier : List Entry
-    pub later : List Entry
-    pub whole : earlier ++ later ≡ m.history
-    pub sessions : ℕ → List (Session Request Moment)
-    pub comes : m.comes earlier sessions
+    pub newer : List (Session Request Moment)
     pub session : Session Request Moment
-    pub newest : sessions m.place ≡ session ∷ older
+    pub there : m.sessions ≡ newer ++ session ∷ older
     pub unsaid : List ℕ
     pub said : session.said.bytes ≡ out ++ unsaid
 

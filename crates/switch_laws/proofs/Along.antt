@@ -45,7 +45,7 @@ use Rattle.switch_laws.proofs.Following.{Good as GoodTable, in_front, last_withi
 use Rattle.switch_laws.proofs.Listening.{Good as GoodUsers, last_came, last_within as last_user, shorter as users_shorter}
 use Rattle.switch_laws.proofs.Merging.{merged, snoc_once}
 use Rattle.switch_laws.proofs.Ordering.{Anywhere, ended, HearsAt, Laid, Script, TakesAt, does_free, hears, laid, nothing_done, table_append, table_passes, takes, users_append, users_pass}
-use Rattle.switch_laws.proofs.Passing.{all_stay, answered_on, begun_at, begun_on, goes_further, newest_went_on, one_came, reported_on, rested_on, stays, unanswered_on}
+use Rattle.switch_laws.proofs.Passing.{all_stay, answered_on, begun_at, begun_on, goes_further, newest_went_on, one_came, reported_on, rested_on, stays, step_begun, unanswered_on}
 use Rattle.switch_laws.proofs.Placing.{placed_again, placed_here}
 use Rattle.switch_laws.proofs.Replying.{Free, Takes, recalled, uses}
 use Rattle.switch_laws.proofs.Standings.{is_due, standing_more}
@@ -194,11 +194,6 @@ module _ {U M : Type 0} (l : Language U M) (r : Rules) (excused : Excuse) (past 
 
   users_on : (m : List AnyEntry) (e : UserEntry) → at_users m ++ e ∷ [] ≡ at_users (m ++ inr e ∷ [])
   users_on m e = sym (users_append m (inr e ∷ []))
-
-  step_begun : (p : ℕ) (v w : Desk) (f : ℕ → Desk) → AreBegun IsBegun v w → (k : ℕ) → AreBegun IsBegun (placed p v f k) (placed p w f k)
-  step_begun p v w f x k =
-      subst (λ (g : ℕ → Desk). AreBegun IsBegun (placed p v f k) (g k)) (placed_again p w v f)
-      (begun_at IsBegun stays goes_further p w (placed p v f) (subst (λ (d : Desk). AreBegun IsBegun d w) (sym (placed_here p v f)) x) k)
 
   -- one turn more
   turned : (front : List AnyEntry) (ts : List (Turn U M)) (turn : Turn U M) (p : ℕ) (v w : Desk) (f : ℕ → Desk) → AreBegun IsBegun v w → Passed front ts (placed p v f) → Passed front (turn ∷ ts) (placed p w f)
@@ -480,7 +475,7 @@ module _ {U M : Type 0} (l : Language U M) (r : Rules) (excused : Excuse) (past 
 
   in_this_order : (m : List AnyEntry) (used : ℕ → List AnyEntry) (f : ℕ → Desk) → 0 < n → Good m → ((p : ℕ) → p < n → ActsAlong l p r.table o past (past ++ at_table m) (at_users m) (used p) (f p)) → ((p : ℕ) → p < n → used p ≡ filter (is_used p) m) → ((p : ℕ) → n ≤ p → f p ≡ none_yet) → Pl m f
   in_this_order m used f pos good acts as_used beyond =
-      merged place_in Idles idles_or [] none_yet Good Pl n within shorter_by opening idly pos (length m + 1) m f (omega arith) (λ p lt. along p m (used p) (f p) (acts p lt) (as_used p lt)) beyond good
+      merged place_in Idles idles_or [] none_yet Good Pl Pl (λ p g w. Unit {0}) n within shorter_by opening (λ g f met x. x) idly pos (length m + 1) m f (omega arith) (λ p lt. along p m (used p) (f p) (acts p lt) (as_used p lt)) beyond good
 
   pub in_one_order : (h : List Entry) (g : List UserEntry) (used : ℕ → List AnyEntry) (m : List AnyEntry) (f : ℕ → Desk) → 0 < n → GoodTable l r excused past n (past ++ h) → GoodUsers l o failing n g → ((p : ℕ) → p < n → ActsAlong l p r.table o past (past ++ h) g (used p) (f p)) → ((p : ℕ) → n ≤ p → f p ≡ none_yet) → IsOrderOf h g n used m
       → ArePlayedInOrder l r.limit excused start o failing r.table past m h g f

@@ -36,7 +36,7 @@ module _ {A B W : Type 0} (place : A ⊎ B → ℕ) (Idle : A ⊎ B → Type 0) 
   E = A ⊎ B
 
   abbrev pub Laid : ℕ → List E → W → Type 0
-  Laid p m w = Track place Idle tell [] none Good Pl p m w
+  Laid p m w = Track place Idle tell [] none Good Pl Pl (λ q h v. Unit {0}) p m w
 
   -- a step that takes no entry may come anywhere
   abbrev pub Anywhere : ℕ → W → W → Type 0
@@ -177,9 +177,9 @@ module _ {A B W : Type 0} (place : A ⊎ B → ℕ) (Idle : A ⊎ B → Type 0) 
             | inl own ↦ (
                 let r = take_table e front (filter (used p) m) h g o w s last (o_is ∙ kept m (inl e) own.0) own.0 le in
                 let before = lays m lt front g (filter (used p) m) r.before r.script refl users refl in
-                r.back (m ++ inl e ∷ []) (goes_on m (inl e) r.before r.behind own.1 own.2 (λ f good x. r.on m f refl good x) before)
+                r.back (m ++ inl e ∷ []) (goes_on m (inl e) r.before r.behind own.1 own.2 (λ f good x. r.on m f refl good x) tt before)
                 )
-            | inr other ↦ (goes_by m (inl e) w other.1 (lays m lt front g o w (drop_table e front h g o w s last other.0 le) refl users (o_is ∙ left_out m (inl e) other.0)))
+            | inr other ↦ (goes_by m (inl e) w other.1 tt (lays m lt front g o w (drop_table e front h g o w s last other.0 le) refl users (o_is ∙ left_out m (inl e) other.0)))
           ]
 
       by_users : (e : B) → h ≡ past ++ at_table (m ++ inr e ∷ []) → g ≡ at_users (m ++ inr e ∷ []) → o ≡ filter (used p) (m ++ inr e ∷ []) → Laid p (m ++ inr e ∷ []) w
@@ -191,9 +191,9 @@ module _ {A B W : Type 0} (place : A ⊎ B → ℕ) (Idle : A ⊎ B → Type 0) 
             | inl own ↦ (
                 let r = take_users e front (filter (used p) m) h g o w s last (o_is ∙ kept m (inr e) own.0) own.0 in
                 let before = lays m lt h front (filter (used p) m) r.before r.script table refl refl in
-                r.back (m ++ inr e ∷ []) (goes_on m (inr e) r.before r.behind own.1 own.2 (λ f good x. r.on m f refl good x) before)
+                r.back (m ++ inr e ∷ []) (goes_on m (inr e) r.before r.behind own.1 own.2 (λ f good x. r.on m f refl good x) tt before)
                 )
-            | inr other ↦ (goes_by m (inr e) w other.1 (lays m lt h front o w (drop_users e front h g o w s last other.0) table refl (o_is ∙ left_out m (inr e) other.0)))
+            | inr other ↦ (goes_by m (inr e) w other.1 tt (lays m lt h front o w (drop_users e front h g o w s last other.0) table refl (o_is ∙ left_out m (inr e) other.0)))
           ]
 
       by_last : (x : E) → h ≡ past ++ at_table (m ++ x ∷ []) → g ≡ at_users (m ++ x ∷ []) → o ≡ filter (used p) (m ++ x ∷ []) → Laid p (m ++ x ∷ []) w

@@ -16,7 +16,7 @@ use Rattle.craft_session.specs.Walks.{attending_after}
 use Rattle.switch_laws.specs.Element.{Element, IsPlayed, Session, Turn, answer, answered, answers, call, comes, fresh, look, mend, mends, opens, reported, reports, rest, rested, rests, stop, stop_at_users, stops, stops_at_users, unanswered}
 use Rattle.switch_laws.specs.Moments.{AreBegun, IsBegun, IsMoment, changed}
 use Rattle.switch_laws.specs.Placed.{placed}
-use Rattle.switch_laws.proofs.Placing.{placed_else, placed_here}
+use Rattle.switch_laws.proofs.Placing.{placed_again, placed_else, placed_here}
 
 abbrev hd : {A : Type 0} → A → List A → A
 hd d [] = d
@@ -130,6 +130,12 @@ module _ {U M : Type 0} where
     bytes = x.bytes;
     written = refl;
   }
+
+  -- what one place had goes on
+  pub step_begun : (p : ℕ) (v w : List (Session U M)) (f : ℕ → List (Session U M)) → AreBegun IsBegun v w → (k : ℕ) → AreBegun IsBegun (placed p v f k) (placed p w f k)
+  step_begun p v w f x k =
+      subst (λ (g : ℕ → List (Session U M)). AreBegun IsBegun (placed p v f k) (g k)) (placed_again p w v f)
+      (begun_at IsBegun stays goes_further p w (placed p v f) (subst (λ (d : List (Session U M)). AreBegun IsBegun d w) (sym (placed_here p v f)) x) k)
 
 module _ {U M : Type 0} (l : Language U M) (limit : Limit) (excused : Excuse) (start : Element U M) where
   abbrev Played : List (Turn U M) → Element U M → Type 0

@@ -24,7 +24,7 @@ use Rattle.craft_session.specs.Consulting.{Consults}
 use Rattle.craft_session.specs.Happenings.{Happening, Request}
 use Rattle.craft_session.specs.Hearing.{to_do}
 use Rattle.craft_session.specs.Plain.{Excuse, said_in}
-use Rattle.craft_session.specs.Runs.{Run, Walk}
+use Rattle.craft_session.specs.Runs.{Message, Run, Walk}
 use Rattle.craft_session.specs.Walks.{CutsAt, FrontOf, IsUnused}
 use Rattle.switch_laws.specs.Element.{ComesTo, Element, IsPlayed, Session, Standing, Turn, doubted_by, halted, ready, refused_by, unanswered}
 
@@ -47,30 +47,39 @@ HearingsGoOn = (l : Language Request Moment) (place : ℕ) (o : UsersOpening) (p
 abbrev pub session_in : {U M : Type 0} → Walk U M → Session U M
 session_in w = record { happenings = w.happenings; attending = w.attending; due = w.due; said = said_in w; ended = false }
 
--- What the sessions of a place did over a history, the newest first: each began where the one before it had ended, and some were ended
--- by a stop, in the middle of a command at the table or before one at the users.
+-- a message of the session of a place that came after these
+pub record Spoken (U M : Type 0) : Type 0 where
+  pub older : List (Session U M)
+  pub message : Message
+
+abbrev pub spoken_in : {U M : Type 0} → List (Session U M) → List Message → List (Spoken U M)
+spoken_in older [] = []
+spoken_in older (m ∷ ms) = record { older = older; message = m } ∷ spoken_in older ms
+
+-- What the sessions of a place did over a history, the newest first, and their messages as they came: each began where the one before it had ended, and some
+-- were ended by a stop, in the middle of a command at the table or before one at the users.
 pub data Lives {U M : Type 0} (l : Language U M) (place : ℕ) (t : Board) (past : List Entry)
-    : List Entry → List (Session U M) → Type 0 where
-  nobody_came : Lives l place t past past []
-  passed_on : (h : List Entry) (ss : List (Session U M)) (e : Entry)
+    : List Entry → List (Spoken U M) → List (Session U M) → Type 0 where
+  nobody_came : Lives l place t past past [] []
+  passed_on : (h : List Entry) (said : List (Spoken U M)) (ss : List (Session U M)) (e : Entry)
       → IsUnused place e
-      → Lives l place t past h ss
-      → Lives l place t past (h ++ e ∷ []) ss
-  served : (h : List Entry) (ss : List (Session U M)) (w : Walk U M)
+      → Lives l place t past h said ss
+      → Lives l place t past (h ++ e ∷ []) said ss
+  served : (h : List Entry) (said : List (Spoken U M)) (ss : List (Session U M)) (w : Walk U M)
       → Run l place t h w
-      → Lives l place t past h ss
-      → Lives l place t past w.history (session_in w ∷ ss)
-  stopped : (h : List Entry) (ss : List (Session U M)) (w : Walk U M) (u : U) (front : List Entry) (op : Op)
+      → Lives l place t past h said ss
+      → Lives l place t past w.history (said ++ spoken_in ss w.messages) (session_in w ∷ ss)
+  stopped : (h : List Entry) (said : List (Spoken U M)) (ss : List (Session U M)) (w : Walk U M) (u : U) (front : List Entry) (op : Op)
       → Run l place t h w → w.due ≡ false
       → FrontOf place w.history (l.asks w.attending.user u) front
       → CutsAt (w.history ++ front) (l.asks w.attending.user u) op
-      → Lives l place t past h ss
-      → Lives l place t past ((w.history ++ front) ++ entry place op Cut ∷ []) (unanswered u (session_in w) ∷ ss)
-  stopped_at_users : (h : List Entry) (ss : List (Session U M)) (w : Walk U M) (u : U) (op : UserOp)
+      → Lives l place t past h said ss
+      → Lives l place t past ((w.history ++ front) ++ entry place op Cut ∷ []) (said ++ spoken_in ss w.messages) (unanswered u (session_in w) ∷ ss)
+  stopped_at_users : (h : List Entry) (said : List (Spoken U M)) (ss : List (Session U M)) (w : Walk U M) (u : U) (op : UserOp)
       → Run l place t h w → w.due ≡ false
       → l.wants w.attending.user u ≡ to_do op → IsChanging op
-      → Lives l place t past h ss
-      → Lives l place t past w.history (unanswered u (session_in w) ∷ ss)
+      → Lives l place t past h said ss
+      → Lives l place t past w.history (said ++ spoken_in ss w.messages) (unanswered u (session_in w) ∷ ss)
 
 -- the operations in doubt after an entry, and after several
 abbrev pub doubted_by_entry : List Op → Op → Outcome → List Op
@@ -111,10 +120,10 @@ pub record IsExcused (excused : Excuse) (e : Entry) : Type 0 where
 -- changes are those of the history, in its order.
 abbrev pub ArePlayedTogether : Type 0
 ArePlayedTogether = (l : Language Request Moment) (excused : Cause → Bool) (o : Opening) (past h : List Entry)
-    (places : ℕ) (sessions : ℕ → List (Session Request Moment))
+    (places : ℕ) (spoken : ℕ → List (Spoken Request Moment)) (sessions : ℕ → List (Session Request Moment))
     → IsLegal (rules_of o) h → AllByRecursion (IsExcused (λ q. IsTrue (excused q))) h
     → 0 < places → AllByRecursion (λ e. e.place < places) h
-    → ((p : ℕ) → p < places → Lives l p o.first.fold.table past h (sessions p))
+    → ((p : ℕ) → p < places → Lives l p o.first.fold.table past h (spoken p) (sessions p))
     → ((p : ℕ) → places ≤ p → sessions p ≡ [])
     → ComesTo l (LimitBehind o.first) (λ q. IsTrue (excused q))
     (element o.first.fold.table past (λ p. [])) (element o.first.fold.table h sessions)

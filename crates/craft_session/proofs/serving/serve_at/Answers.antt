@@ -13,7 +13,7 @@ use Rattle.craft_session.specs.Noted.{HasNoted, stood}
 use Rattle.craft_session.specs.Seats.{SeatAt, UserSeatAt, PlaceAt}
 use Rattle.craft_session.specs.Sessions.{IsPrompt, IsServed}
 use Rattle.craft_session.specs.Stamps.{stamp_at}
-use Rattle.craft_session.specs.Timely.{WasTimely, reached, telling}
+use Rattle.craft_session.specs.Timely.{WasTimely, telling}
 use Rattle.craft_session.specs.Idling.{WasAwake, WasIdle}
 use Rattle.craft_session.specs.Waiting.{IsLetGoBy, WasUnattended}
 use Rattle.craft_session.proofs.Ends.{no_write_fault}
@@ -35,7 +35,7 @@ returns g c =
             c.serve-end.ensures.session;
         prompt = subst (λ (w : (Contents × SessionUser) × (SeatAt × UserSeatAt)). IsPrompt (language_for w.0.1 w.0.0) g.K.Link.begun g.K.Link.told g.C.Timestamps.told (g.K.Link.state c.args.link.now) (g.K.Link.state c.serve-end.new.link) (g.C.Timestamps.coming c.args.clock.now) w.1.0 w.1.1) (λ i. ((shelf_is i, user_is i), (seat_is i, users_is i)))
             c.serve-end.ensures.prompt;
-        timely = subst (λ (w : (Contents × SessionUser) × (SeatAt × UserSeatAt)). WasTimely (language_for w.0.1 w.0.0) (telling g.K.Link.told g.C.Timestamps.told g.C.Timestamps.stamped) (stamp_at (g.C.Timestamps.coming c.args.clock.now) (g.K.Link.state c.args.link.now) w.1.0 w.1.1) (reached (g.K.Link.state c.serve-end.new.link).written c.serve-end.new.desk.seat.seen c.serve-end.new.desk.users.seat.seen)) (λ i. ((shelf_is i, user_is i), (seat_is i, users_is i)))
+        timely = subst (λ (w : (Contents × SessionUser) × (SeatAt × UserSeatAt)). WasTimely (language_for w.0.1 w.0.0) (telling g.K.Link.told g.C.Timestamps.told g.C.Timestamps.stamped) (stamp_at (g.C.Timestamps.coming c.args.clock.now) (g.K.Link.state c.args.link.now) w.1.0 w.1.1) (stamp_at (g.C.Timestamps.coming c.serve-end.new.clock) (g.K.Link.state c.serve-end.new.link) c.serve-end.new.desk.seat c.serve-end.new.desk.users.seat) c.serve-end.result) (λ i. ((shelf_is i, user_is i), (seat_is i, users_is i)))
             c.serve-end.ensures.timely;
         asked = subst (λ (w : SeatAt × UserSeatAt). AreEntered w.0 w.1 (g.G.Gate.asked c.args.gate.now c.serve-end.new.gate) c.serve-end.new.desk.seat.seen c.serve-end.new.desk.users.seat.seen) (λ i. (seat_is i, users_is i)) c.serve-end.ensures.asked;
         unattended = subst (λ (w : (Contents × SessionUser) × (SeatAt × UserSeatAt)). c.serve-end.result ≡ Unattended → WasUnattended (language_for w.0.1 w.0.0) g.K.Link.begun g.K.Link.told g.C.Timestamps.told (g.K.Link.state c.args.link.now) (g.C.Timestamps.coming c.args.clock.now) w.1.0 w.1.1 (g.K.Link.state c.serve-end.new.link)) (λ i. ((shelf_is i, user_is i), (seat_is i, users_is i)))

@@ -1,5 +1,5 @@
 use Rattle.std.specs.Prelude.{IsErr, is_some}
-use Rattle.std.proofs.Common.{rules, ◌≡◌, ℕ, List, false, [], ◌∷◌, Result, Ok, refl, sym, ◌∙◌, ap, subst, arith}
+use Rattle.std.proofs.Common.{rules, ◌≡◌, ℕ, List, false, [], ◌∷◌, Result, Ok, Err, refl, sym, ◌∙◌, ap, subst, arith}
 use Rattle.std.proofs.lemmas.Grind.{common_steps}
 use Rattle.std.specs.Arc.{arc_value}
 use Rattle.craft_session.specs.Desks.{now}
@@ -15,10 +15,13 @@ use Rattle.craft_session.proofs.Ends.{bytes_came, cancelled_no, counted_none, en
 use Rattle.craft_session.proofs.Gated.{are_entered_beside, are_entered_none, are_entered_on}
 use Rattle.craft_session.proofs.Noted.{beside_reports, noted_beside, noted_more, noted_moved, noted_none, noted_read}
 use Rattle.craft_session.proofs.Prompt.{prompt_more, prompt_none}
-use Rattle.craft_session.proofs.SessionSteps.{stands_none, stands_piece, stands_quiet, goes_on_is, goes_cut_is, goes_stopped_is, counted_more, served_nothing, served_here}
-use Rattle.craft_session.specs.Timely.{in_hand, starting, telling}
-use Rattle.craft_session.proofs.Answering.{moved_goes}
-use Rattle.craft_session.proofs.Timely.{goes_nowhere, looked_to, timely_moved, timely_none, timely_read, went_to}
+use Rattle.craft_session.proofs.SessionSteps.{stands_none, stands_piece, stands_quiet, counted_more, served_nothing, served_here}
+use Rattle.craft_session.specs.Gathered.{desk_at, to_read, to_report}
+use Rattle.craft_session.specs.Runs.{begins, waits}
+use Rattle.craft_session.specs.Stamps.{stamp_at}
+use Rattle.craft_session.specs.Timely.{WasTimely, reached, starting, telling}
+use Rattle.craft_session.specs.declared.end.SessionEnd.TheVariants.{End, ReadFault, WriteFault, Stopped as Halted}
+use Rattle.craft_session.proofs.Timely.{goes_nowhere, looked_to, read_goes, timely_none, timely_read, went_to}
 use Rattle.craft_session.specs.declared.patience.Patience.TheVariants.{Limited}
 use Rattle.craft_session.specs.Waiting.{waited_after}
 use Rattle.craft_session.proofs.Idling.{Idles, awake_behind, byte_came, idle_at, idles_heard, idles_none, idles_silent, some_silent}
@@ -26,6 +29,7 @@ use Rattle.craft_session.specs.Idling.{IsInTime, IsTooLong, silent_after}
 use Rattle.shelf_file.specs.declared.idle.IdleLimits.{IdleLimits}
 use Rattle.shelf_file.specs.Contents.{Contents}
 use Rattle.dxc_outside.specs.declared.stopped.Stopped.{Stopped}
+use Rattle.dxc_outside.specs.Stops.{the_stop}
 use Rattle.dxc_outside.specs.Items.{Item, quiet}
 use Rattle.craft_session.specs.declared.attending.Attending.{Attending}
 use Rattle.craft_session.proofs.Cancelling.{beside_look, heeds_more, heeds_none, looked, made_one, somebody_ended}
@@ -40,7 +44,7 @@ loop-init g c = record {
   users = (refl, refl, refl, refl);
   stands = λ b at saw users first. stands_none (language_for c.args.desk.now.attending.user (arc_value c.args.desk.now.shelf)) g.K.Link.told g.C.Timestamps.told (g.K.Link.state c.args.link.now) (g.C.Timestamps.coming c.args.clock.now) b (now c.args.desk.now) c.args.desk.now.reader saw users first c.requires.begun c.requires.nothing_read;
   prompt = prompt_none (language_for c.args.desk.now.attending.user (arc_value c.args.desk.now.shelf)) g.K.Link.begun g.K.Link.told g.C.Timestamps.told (g.K.Link.state c.args.link.now) (g.C.Timestamps.coming c.args.clock.now) c.args.desk.now.seat c.args.desk.now.users.seat;
-  timely = λ b at saw users first. timely_none (language_for c.args.desk.now.attending.user (arc_value c.args.desk.now.shelf)) (telling g.K.Link.told g.C.Timestamps.told g.C.Timestamps.stamped) (starting (g.K.Link.state c.args.link.now) (g.C.Timestamps.coming c.args.clock.now) b) (g.K.Link.state c.args.link.now) _ refl;
+  timely = λ b at saw users first. timely_none (language_for c.args.desk.now.attending.user (arc_value c.args.desk.now.shelf)) (telling g.K.Link.told g.C.Timestamps.told g.C.Timestamps.stamped) (starting (g.K.Link.state c.args.link.now) (g.C.Timestamps.coming c.args.clock.now) b) (g.K.Link.state c.args.link.now) _ _ refl;
   gate = refl;
   counted = counted_none _;
   faults = refl;
@@ -66,25 +70,27 @@ returns-in-Ok-Cut g c =
     let b : Beginning = record { opening = seat.opening; users = c.args.desk.now.users.seat.opening; place = seat.place; before = h.0; users_before = p.0; first = done_before seat c.args.desk.now.users.seat p.1.marks } in
     let s = c.serve_piece.ensures in
     let going : (g.K.Link.state c.serve_piece.new.link).ended ≡ false = s.link.wrote.ended ∙ c.in-Bytes.ensures.read.ended in
-    let breaks = goes_cut_is _ _ _ _ _ _ _ _ _ _ _ _ _ (c.in-Ok-Cut.is ∙ ap (λ (p : Progress). Ok p) c.in-Ok-Cut.field-0-is) (moved_goes arc_value c.args.desk.now.attending.user g.K.Link.told g.C.Timestamps.told _ (g.K.Link.state c.serve_piece.new.link) (g.C.Timestamps.coming c.loop.clock) (g.C.Timestamps.coming c.serve_piece.new.clock) (now c.is_cancelled.new.desk) (now c.serve_piece.new.desk) false c.is_cancelled.new.desk.reader c.serve_piece.new.desk.reader c.serve_piece.result c.args.desk.now.shelf c.is_cancelled.new.desk.shelf c.args.desk.now.seat c.is_cancelled.new.desk.seat c.args.desk.now.users.seat c.is_cancelled.new.desk.users.seat _ [] (c.is_cancelled.ensures.shelf ∙ c.loop.invariant.shelf) moved.here.seat_is moved.here.users_are (c.serve_piece.ensures.goes c.args.desk.now.attending.user) _ _ b (refl, refl, refl, c.args.desk.now.same_place) (stands_piece _ _ _ _ _ _ _ _ _ _ _ _ _ _ (moved.here.stands b (refl, refl, refl, c.args.desk.now.same_place) h.1 p.1 (record { stamps_are = refl; users_stamps_are = refl; codes_are = p.1.codes_are })) c.in-Bytes.ensures.read (grind (arith, common_steps)))) in
+    let timely : WasTimely (language_for c.args.desk.now.attending.user (arc_value c.args.desk.now.shelf)) (telling g.K.Link.told g.C.Timestamps.told g.C.Timestamps.stamped) (stamp_at (g.C.Timestamps.coming c.args.clock.now) (g.K.Link.state c.args.link.now) c.args.desk.now.seat c.args.desk.now.users.seat) (stamp_at (g.C.Timestamps.coming c.serve_piece.new.clock) (g.K.Link.state c.serve_piece.new.link) c.serve_piece.new.desk.seat c.serve_piece.new.desk.users.seat) WriteFault = λ b at saw users first.
+        let x = read_goes (telling g.K.Link.told g.C.Timestamps.told g.C.Timestamps.stamped) (desk_at (g.K.Link.state c.read.new.self) (g.C.Timestamps.coming c.loop.clock) c.is_cancelled.new.desk) (desk_at (g.K.Link.state c.serve_piece.new.link) (g.C.Timestamps.coming c.serve_piece.new.clock) c.serve_piece.new.desk) (to_read c.is_cancelled.new.desk.attending c.is_cancelled.new.desk.reader _) c.serve_piece.new.desk.reader [] c.serve_piece.result (arc_value c.args.desk.now.shelf) c.args.desk.now.seat c.args.desk.now.users.seat c.args.desk.now.attending.user (g.K.Link.state c.args.link.now) (g.K.Link.state c.loop.link) (g.C.Timestamps.coming c.args.clock.now)
+          (ap arc_value (c.is_cancelled.ensures.shelf ∙ c.loop.invariant.shelf)) moved.here.seat_is moved.here.users_are c.serve_piece.ensures.goes _ _ c.in-Bytes.ensures.read (Ok Cut) (c.in-Ok-Cut.is ∙ ap (λ (p : Progress). Ok p) c.in-Ok-Cut.field-0-is) b at (moved.here.stands b at saw users first).past.walk (moved.here.timely b at saw users first)
+          (went_to g.K.Link.told b _ (g.K.Link.state c.serve_piece.new.link) c.is_cancelled.new.desk.seat c.is_cancelled.new.desk.users.seat (moved.here.seat_is.0 ∙ at.0, moved.here.seat_is.1 ∙ at.1, moved.here.users_are.0 ∙ at.2, moved.here.users_are.1 ∙ at.3) c.serve_piece.ensures.link _ _ _ c.serve_piece.ensures.asked)
+          (stands_piece _ _ _ _ _ _ _ _ _ _ _ _ _ _ (moved.here.stands b at saw users first) c.in-Bytes.ensures.read (grind (arith, common_steps))) begins in
+        record { attending = _; session = x.goes; timely = x.timely } in
+    let at_end = timely b (refl, refl, refl, c.args.desk.now.same_place) h.1 p.1 (record { stamps_are = refl; users_stamps_are = refl; codes_are = p.1.codes_are }) in
     record {
       shelf = s.shelf ∙ (c.is_cancelled.ensures.shelf ∙ c.loop.invariant.shelf);
       seat = (s.seat.0 ∙ moved.here.seat_is.0, s.seat.1 ∙ moved.here.seat_is.1, s.seat.2 ∙ moved.here.seat_is.2, s.seat.3 ∙ moved.here.seat_is.3);
       users = (s.users.0 ∙ moved.here.users_are.0, s.users.1 ∙ moved.here.users_are.1, s.users.2 ∙ moved.here.users_are.2, s.users.3 ∙ moved.here.users_are.3);
       hung_up = s.hung_up ∙ c.in-Bytes.ensures.hung_up ∙ c.loop.invariant.hung_up;
-      session = record { before = h.0; users_before = p.0; saw = h.1; users_saw = p.1; attending = _; session = breaks };
+      session = record { before = h.0; users_before = p.0; saw = h.1; users_saw = p.1; attending = at_end.attending; session = at_end.session };
       prompt = prompt_more (language_for c.args.desk.now.attending.user (arc_value c.args.desk.now.shelf)) g.K.Link.begun g.K.Link.told g.C.Timestamps.told (g.K.Link.state c.args.link.now) (g.C.Timestamps.coming c.args.clock.now) c.args.desk.now.seat c.args.desk.now.users.seat (g.K.Link.state c.loop.link) (g.K.Link.state c.serve_piece.new.link) _ (g.C.Timestamps.coming c.loop.clock) (now c.is_cancelled.new.desk) c.is_cancelled.new.desk.reader c.loop.invariant.prompt c.in-Bytes.ensures.begun moved.here.stands c.in-Bytes.ensures.read.reads s.link.wrote.reads;
       heeds = λ limits. heeds_more (language_for c.args.desk.now.attending.user (arc_value c.args.desk.now.shelf)) g.K.Link.begun g.K.Link.told g.C.Timestamps.told (g.K.Link.state c.args.link.now) (g.C.Timestamps.coming c.args.clock.now) c.args.desk.now.seat c.args.desk.now.users.seat (g.K.Link.state c.loop.link) (g.K.Link.state c.serve_piece.new.link) _ (g.C.Timestamps.coming c.loop.clock) (now c.is_cancelled.new.desk) c.is_cancelled.new.desk.reader (c.loop.invariant.heeds limits) c.in-Bytes.ensures.begun (λ b at saw users first. (moved.here.stands b at saw users first, moved.unended c.if-is_cancelled.false limits b at saw users first)) c.in-Bytes.ensures.read.reads s.link.wrote.reads;
-      timely = λ b at saw users first.
-          timely_read (language_for c.args.desk.now.attending.user (arc_value c.args.desk.now.shelf)) (telling g.K.Link.told g.C.Timestamps.told g.C.Timestamps.stamped) (starting (g.K.Link.state c.args.link.now) (g.C.Timestamps.coming c.args.clock.now) b) (g.K.Link.state c.args.link.now) (g.K.Link.state c.loop.link) c.is_cancelled.new.desk.seat.seen c.is_cancelled.new.desk.users.seat.seen (moved.here.timely b at saw users first) _ _ _ _ c.in-Bytes.ensures.read
-          (timely_moved arc_value (telling g.K.Link.told g.C.Timestamps.told g.C.Timestamps.stamped) (g.C.Timestamps.coming c.loop.clock) _ _ (in_hand c.is_cancelled.new.desk.attending false More c.is_cancelled.new.desk.reader _) c.args.desk.now.shelf c.is_cancelled.new.desk.shelf c.args.desk.now.seat c.is_cancelled.new.desk.seat c.args.desk.now.users.seat c.is_cancelled.new.desk.users.seat (c.is_cancelled.ensures.shelf ∙ c.loop.invariant.shelf) moved.here.seat_is moved.here.users_are c.serve_piece.ensures.timely c.args.desk.now.attending.user _ _ b at
-          (stands_piece _ _ _ _ _ _ _ _ _ _ _ _ _ _ (moved.here.stands b at saw users first) c.in-Bytes.ensures.read (grind (arith, common_steps))))
-          (went_to g.K.Link.told b _ (g.K.Link.state c.serve_piece.new.link) c.is_cancelled.new.desk.seat c.is_cancelled.new.desk.users.seat (moved.here.seat_is.0 ∙ at.0, moved.here.seat_is.1 ∙ at.1, moved.here.users_are.0 ∙ at.2, moved.here.users_are.1 ∙ at.3) c.serve_piece.ensures.link _ _ _ c.serve_piece.ensures.asked);
+      timely = timely;
       end = ((λ is. write_no _ is refl), (λ ended. unheld _ going ended));
       all_read = λ t is. write_no _ is refl;
       read_fault = λ is. write_no _ is refl;
       no_read_fault = λ is. s.link.wrote.read_faults ∙ c.in-Bytes.ensures.read.no_fault (bytes_came _) ∙ c.loop.invariant.faults;
-      write_fault = λ is. breaks.rose;
+      write_fault = λ is. at_end.session.rose;
       stopped = λ is. write_no _ is refl;
       unstopped = λ is. stayed_ok Cut c.serve_piece.result _ _ (c.in-Ok-Cut.is ∙ ap (λ (p : Progress). Ok p) c.in-Ok-Cut.field-0-is) s.stopped ∙ c.loop.invariant.gate;
       later = later_behind _ _ _ c.loop.invariant.gate s.stopped.later;
@@ -112,18 +118,21 @@ returns-in-Err g c =
     let b : Beginning = record { opening = seat.opening; users = c.args.desk.now.users.seat.opening; place = seat.place; before = h.0; users_before = p.0; first = done_before seat c.args.desk.now.users.seat p.1.marks } in
     let s = c.serve_piece.ensures in
     let going : (g.K.Link.state c.serve_piece.new.link).ended ≡ false = s.link.wrote.ended ∙ c.in-Bytes.ensures.read.ended in
+    let timely : WasTimely (language_for c.args.desk.now.attending.user (arc_value c.args.desk.now.shelf)) (telling g.K.Link.told g.C.Timestamps.told g.C.Timestamps.stamped) (stamp_at (g.C.Timestamps.coming c.args.clock.now) (g.K.Link.state c.args.link.now) c.args.desk.now.seat c.args.desk.now.users.seat) (stamp_at (g.C.Timestamps.coming c.serve_piece.new.clock) (g.K.Link.state c.serve_piece.new.link) c.serve_piece.new.desk.seat c.serve_piece.new.desk.users.seat) Halted = λ b at saw users first.
+        let x = read_goes (telling g.K.Link.told g.C.Timestamps.told g.C.Timestamps.stamped) (desk_at (g.K.Link.state c.read.new.self) (g.C.Timestamps.coming c.loop.clock) c.is_cancelled.new.desk) (desk_at (g.K.Link.state c.serve_piece.new.link) (g.C.Timestamps.coming c.serve_piece.new.clock) c.serve_piece.new.desk) (to_read c.is_cancelled.new.desk.attending c.is_cancelled.new.desk.reader _) c.serve_piece.new.desk.reader [] c.serve_piece.result (arc_value c.args.desk.now.shelf) c.args.desk.now.seat c.args.desk.now.users.seat c.args.desk.now.attending.user (g.K.Link.state c.args.link.now) (g.K.Link.state c.loop.link) (g.C.Timestamps.coming c.args.clock.now)
+          (ap arc_value (c.is_cancelled.ensures.shelf ∙ c.loop.invariant.shelf)) moved.here.seat_is moved.here.users_are c.serve_piece.ensures.goes _ _ c.in-Bytes.ensures.read (Err the_stop) c.in-Err.is b at (moved.here.stands b at saw users first).past.walk (moved.here.timely b at saw users first)
+          (went_to g.K.Link.told b _ (g.K.Link.state c.serve_piece.new.link) c.is_cancelled.new.desk.seat c.is_cancelled.new.desk.users.seat (moved.here.seat_is.0 ∙ at.0, moved.here.seat_is.1 ∙ at.1, moved.here.users_are.0 ∙ at.2, moved.here.users_are.1 ∙ at.3) c.serve_piece.ensures.link _ _ _ c.serve_piece.ensures.asked)
+          (stands_piece _ _ _ _ _ _ _ _ _ _ _ _ _ _ (moved.here.stands b at saw users first) c.in-Bytes.ensures.read (grind (arith, common_steps))) begins in
+        record { attending = _; session = x.goes; timely = x.timely } in
+    let at_end = timely b (refl, refl, refl, c.args.desk.now.same_place) h.1 p.1 (record { stamps_are = refl; users_stamps_are = refl; codes_are = p.1.codes_are }) in
     record {
       shelf = s.shelf ∙ (c.is_cancelled.ensures.shelf ∙ c.loop.invariant.shelf);
       seat = (s.seat.0 ∙ moved.here.seat_is.0, s.seat.1 ∙ moved.here.seat_is.1, s.seat.2 ∙ moved.here.seat_is.2, s.seat.3 ∙ moved.here.seat_is.3);
       users = (s.users.0 ∙ moved.here.users_are.0, s.users.1 ∙ moved.here.users_are.1, s.users.2 ∙ moved.here.users_are.2, s.users.3 ∙ moved.here.users_are.3);
-      session = record { before = h.0; users_before = p.0; saw = h.1; users_saw = p.1; attending = _; session = goes_stopped_is _ _ _ _ _ _ _ _ _ _ _ _ _ _ c.in-Err.is (moved_goes arc_value c.args.desk.now.attending.user g.K.Link.told g.C.Timestamps.told _ (g.K.Link.state c.serve_piece.new.link) (g.C.Timestamps.coming c.loop.clock) (g.C.Timestamps.coming c.serve_piece.new.clock) (now c.is_cancelled.new.desk) (now c.serve_piece.new.desk) false c.is_cancelled.new.desk.reader c.serve_piece.new.desk.reader c.serve_piece.result c.args.desk.now.shelf c.is_cancelled.new.desk.shelf c.args.desk.now.seat c.is_cancelled.new.desk.seat c.args.desk.now.users.seat c.is_cancelled.new.desk.users.seat _ [] (c.is_cancelled.ensures.shelf ∙ c.loop.invariant.shelf) moved.here.seat_is moved.here.users_are (c.serve_piece.ensures.goes c.args.desk.now.attending.user) _ _ b (refl, refl, refl, c.args.desk.now.same_place) (stands_piece _ _ _ _ _ _ _ _ _ _ _ _ _ _ (moved.here.stands b (refl, refl, refl, c.args.desk.now.same_place) h.1 p.1 (record { stamps_are = refl; users_stamps_are = refl; codes_are = p.1.codes_are })) c.in-Bytes.ensures.read (grind (arith, common_steps)))) };
+      session = record { before = h.0; users_before = p.0; saw = h.1; users_saw = p.1; attending = at_end.attending; session = at_end.session };
       prompt = prompt_more (language_for c.args.desk.now.attending.user (arc_value c.args.desk.now.shelf)) g.K.Link.begun g.K.Link.told g.C.Timestamps.told (g.K.Link.state c.args.link.now) (g.C.Timestamps.coming c.args.clock.now) c.args.desk.now.seat c.args.desk.now.users.seat (g.K.Link.state c.loop.link) (g.K.Link.state c.serve_piece.new.link) _ (g.C.Timestamps.coming c.loop.clock) (now c.is_cancelled.new.desk) c.is_cancelled.new.desk.reader c.loop.invariant.prompt c.in-Bytes.ensures.begun moved.here.stands c.in-Bytes.ensures.read.reads s.link.wrote.reads;
       heeds = λ limits. heeds_more (language_for c.args.desk.now.attending.user (arc_value c.args.desk.now.shelf)) g.K.Link.begun g.K.Link.told g.C.Timestamps.told (g.K.Link.state c.args.link.now) (g.C.Timestamps.coming c.args.clock.now) c.args.desk.now.seat c.args.desk.now.users.seat (g.K.Link.state c.loop.link) (g.K.Link.state c.serve_piece.new.link) _ (g.C.Timestamps.coming c.loop.clock) (now c.is_cancelled.new.desk) c.is_cancelled.new.desk.reader (c.loop.invariant.heeds limits) c.in-Bytes.ensures.begun (λ b at saw users first. (moved.here.stands b at saw users first, moved.unended c.if-is_cancelled.false limits b at saw users first)) c.in-Bytes.ensures.read.reads s.link.wrote.reads;
-      timely = λ b at saw users first.
-          timely_read (language_for c.args.desk.now.attending.user (arc_value c.args.desk.now.shelf)) (telling g.K.Link.told g.C.Timestamps.told g.C.Timestamps.stamped) (starting (g.K.Link.state c.args.link.now) (g.C.Timestamps.coming c.args.clock.now) b) (g.K.Link.state c.args.link.now) (g.K.Link.state c.loop.link) c.is_cancelled.new.desk.seat.seen c.is_cancelled.new.desk.users.seat.seen (moved.here.timely b at saw users first) _ _ _ _ c.in-Bytes.ensures.read
-          (timely_moved arc_value (telling g.K.Link.told g.C.Timestamps.told g.C.Timestamps.stamped) (g.C.Timestamps.coming c.loop.clock) _ _ (in_hand c.is_cancelled.new.desk.attending false More c.is_cancelled.new.desk.reader _) c.args.desk.now.shelf c.is_cancelled.new.desk.shelf c.args.desk.now.seat c.is_cancelled.new.desk.seat c.args.desk.now.users.seat c.is_cancelled.new.desk.users.seat (c.is_cancelled.ensures.shelf ∙ c.loop.invariant.shelf) moved.here.seat_is moved.here.users_are c.serve_piece.ensures.timely c.args.desk.now.attending.user _ _ b at
-          (stands_piece _ _ _ _ _ _ _ _ _ _ _ _ _ _ (moved.here.stands b at saw users first) c.in-Bytes.ensures.read (grind (arith, common_steps))))
-          (went_to g.K.Link.told b _ (g.K.Link.state c.serve_piece.new.link) c.is_cancelled.new.desk.seat c.is_cancelled.new.desk.users.seat (moved.here.seat_is.0 ∙ at.0, moved.here.seat_is.1 ∙ at.1, moved.here.users_are.0 ∙ at.2, moved.here.users_are.1 ∙ at.3) c.serve_piece.ensures.link _ _ _ c.serve_piece.ensures.asked);
+      timely = timely;
       hung_up = s.hung_up ∙ c.in-Bytes.ensures.hung_up ∙ c.loop.invariant.hung_up;
       end = ((λ is. stop_no _ is refl), (λ ended. unheld _ going ended));
       all_read = λ t is. stop_no _ is refl;
@@ -156,12 +165,18 @@ returns-in-End g c =
     let seat = c.args.desk.now.seat in
     let b : Beginning = record { opening = seat.opening; users = c.args.desk.now.users.seat.opening; place = seat.place; before = h.0; users_before = p.0; first = done_before seat c.args.desk.now.users.seat p.1.marks } in
     let stands = moved.here.stands b (refl, refl, refl, c.args.desk.now.same_place) h.1 p.1 (record { stamps_are = refl; users_stamps_are = refl; codes_are = p.1.codes_are }) in
-    record {
+    let timely : WasTimely (language_for c.args.desk.now.attending.user (arc_value c.args.desk.now.shelf)) (telling g.K.Link.told g.C.Timestamps.told g.C.Timestamps.stamped) (stamp_at (g.C.Timestamps.coming c.args.clock.now) (g.K.Link.state c.args.link.now) c.args.desk.now.seat c.args.desk.now.users.seat) (stamp_at (g.C.Timestamps.coming c.loop.clock) (g.K.Link.state c.read.new.self) c.is_cancelled.new.desk.seat c.is_cancelled.new.desk.users.seat) End = λ b at saw users first.
+        let x = moved.here.stands b at saw users first in
+        let f = reached (g.K.Link.state c.read.new.self).written c.is_cancelled.new.desk.seat.seen c.is_cancelled.new.desk.users.seat.seen in
+        record {
+          attending = c.is_cancelled.new.desk.attending;
+          session = served_nothing _ _ _ _ _ _ _ _ _ _ _ _ _ x c.in-End.ensures.read refl;
+          timely = timely;
       shelf = (c.is_cancelled.ensures.shelf ∙ c.loop.invariant.shelf);
       hung_up = c.in-End.ensures.hung_up ∙ c.loop.invariant.hung_up;
       seat = moved.here.seat_is;
       users = moved.here.users_are;
-      session = record { before = h.0; users_before = p.0; saw = h.1; users_saw = p.1; attending = _; session = served_nothing _ _ _ _ _ _ _ _ _ _ _ _ _ stands c.in-End.ensures.read refl };
+      session = record { before = h.0; users_before = p.0; saw = h.1; users_saw = p.1; attending = at_end.attending; session = at_end.session };
       prompt = prompt_more (language_for c.args.desk.now.attending.user (arc_value c.args.desk.now.shelf)) g.K.Link.begun g.K.Link.told g.C.Timestamps.told (g.K.Link.state c.args.link.now) (g.C.Timestamps.coming c.args.clock.now) c.args.desk.now.seat c.args.desk.now.users.seat (g.K.Link.state c.loop.link) (g.K.Link.state c.read.new.self) _ (g.C.Timestamps.coming c.loop.clock) (now c.is_cancelled.new.desk) c.is_cancelled.new.desk.reader c.loop.invariant.prompt c.in-End.ensures.begun moved.here.stands c.in-End.ensures.read.reads refl;
       heeds = λ limits. heeds_more (language_for c.args.desk.now.attending.user (arc_value c.args.desk.now.shelf)) g.K.Link.begun g.K.Link.told g.C.Timestamps.told (g.K.Link.state c.args.link.now) (g.C.Timestamps.coming c.args.clock.now) c.args.desk.now.seat c.args.desk.now.users.seat (g.K.Link.state c.loop.link) (g.K.Link.state c.read.new.self) _ (g.C.Timestamps.coming c.loop.clock) (now c.is_cancelled.new.desk) c.is_cancelled.new.desk.reader (c.loop.invariant.heeds limits) c.in-End.ensures.begun (λ b at saw users first. (moved.here.stands b at saw users first, moved.unended c.if-is_cancelled.false limits b at saw users first)) c.in-End.ensures.read.reads refl;
       timely = λ b at saw users first. timely_read (language_for c.args.desk.now.attending.user (arc_value c.args.desk.now.shelf)) (telling g.K.Link.told g.C.Timestamps.told g.C.Timestamps.stamped) (starting (g.K.Link.state c.args.link.now) (g.C.Timestamps.coming c.args.clock.now) b) (g.K.Link.state c.args.link.now) (g.K.Link.state c.loop.link) c.is_cancelled.new.desk.seat.seen c.is_cancelled.new.desk.users.seat.seen (moved.here.timely b at saw users first) _ (g.K.Link.state c.read.new.self) _ _ c.in-End.ensures.read (timely_none (language_for c.args.desk.now.attending.user (arc_value c.args.desk.now.shelf)) (telling g.K.Link.told g.C.Timestamps.told g.C.Timestamps.stamped) (starting (g.K.Link.state c.args.link.now) (g.C.Timestamps.coming c.args.clock.now) b) (g.K.Link.state c.read.new.self) _ refl) (goes_nowhere g.K.Link.told b _);
@@ -196,12 +211,18 @@ returns-in-Failed g c =
     let seat = c.args.desk.now.seat in
     let b : Beginning = record { opening = seat.opening; users = c.args.desk.now.users.seat.opening; place = seat.place; before = h.0; users_before = p.0; first = done_before seat c.args.desk.now.users.seat p.1.marks } in
     let stands = moved.here.stands b (refl, refl, refl, c.args.desk.now.same_place) h.1 p.1 (record { stamps_are = refl; users_stamps_are = refl; codes_are = p.1.codes_are }) in
-    record {
+    let timely : WasTimely (language_for c.args.desk.now.attending.user (arc_value c.args.desk.now.shelf)) (telling g.K.Link.told g.C.Timestamps.told g.C.Timestamps.stamped) (stamp_at (g.C.Timestamps.coming c.args.clock.now) (g.K.Link.state c.args.link.now) c.args.desk.now.seat c.args.desk.now.users.seat) (stamp_at (g.C.Timestamps.coming c.loop.clock) (g.K.Link.state c.read.new.self) c.is_cancelled.new.desk.seat c.is_cancelled.new.desk.users.seat) ReadFault = λ b at saw users first.
+        let x = moved.here.stands b at saw users first in
+        let f = reached (g.K.Link.state c.read.new.self).written c.is_cancelled.new.desk.seat.seen c.is_cancelled.new.desk.users.seat.seen in
+        record {
+          attending = c.is_cancelled.new.desk.attending;
+          session = served_nothing _ _ _ _ _ _ _ _ _ _ _ _ _ x c.in-Failed.ensures.read refl;
+          timely = timely;
       shelf = (c.is_cancelled.ensures.shelf ∙ c.loop.invariant.shelf);
       hung_up = c.in-Failed.ensures.hung_up ∙ c.loop.invariant.hung_up;
       seat = moved.here.seat_is;
       users = moved.here.users_are;
-      session = record { before = h.0; users_before = p.0; saw = h.1; users_saw = p.1; attending = _; session = served_nothing _ _ _ _ _ _ _ _ _ _ _ _ _ stands c.in-Failed.ensures.read refl };
+      session = record { before = h.0; users_before = p.0; saw = h.1; users_saw = p.1; attending = at_end.attending; session = at_end.session };
       prompt = prompt_more (language_for c.args.desk.now.attending.user (arc_value c.args.desk.now.shelf)) g.K.Link.begun g.K.Link.told g.C.Timestamps.told (g.K.Link.state c.args.link.now) (g.C.Timestamps.coming c.args.clock.now) c.args.desk.now.seat c.args.desk.now.users.seat (g.K.Link.state c.loop.link) (g.K.Link.state c.read.new.self) _ (g.C.Timestamps.coming c.loop.clock) (now c.is_cancelled.new.desk) c.is_cancelled.new.desk.reader c.loop.invariant.prompt c.in-Failed.ensures.begun moved.here.stands c.in-Failed.ensures.read.reads refl;
       heeds = λ limits. heeds_more (language_for c.args.desk.now.attending.user (arc_value c.args.desk.now.shelf)) g.K.Link.begun g.K.Link.told g.C.Timestamps.told (g.K.Link.state c.args.link.now) (g.C.Timestamps.coming c.args.clock.now) c.args.desk.now.seat c.args.desk.now.users.seat (g.K.Link.state c.loop.link) (g.K.Link.state c.read.new.self) _ (g.C.Timestamps.coming c.loop.clock) (now c.is_cancelled.new.desk) c.is_cancelled.new.desk.reader (c.loop.invariant.heeds limits) c.in-Failed.ensures.begun (λ b at saw users first. (moved.here.stands b at saw users first, moved.unended c.if-is_cancelled.false limits b at saw users first)) c.in-Failed.ensures.read.reads refl;
       timely = λ b at saw users first. timely_read (language_for c.args.desk.now.attending.user (arc_value c.args.desk.now.shelf)) (telling g.K.Link.told g.C.Timestamps.told g.C.Timestamps.stamped) (starting (g.K.Link.state c.args.link.now) (g.C.Timestamps.coming c.args.clock.now) b) (g.K.Link.state c.args.link.now) (g.K.Link.state c.loop.link) c.is_cancelled.new.desk.seat.seen c.is_cancelled.new.desk.users.seat.seen (moved.here.timely b at saw users first) _ (g.K.Link.state c.read.new.self) _ _ c.in-Failed.ensures.read (timely_none (language_for c.args.desk.now.attending.user (arc_value c.args.desk.now.shelf)) (telling g.K.Link.told g.C.Timestamps.told g.C.Timestamps.stamped) (starting (g.K.Link.state c.args.link.now) (g.C.Timestamps.coming c.args.clock.now) b) (g.K.Link.state c.read.new.self) _ refl) (goes_nowhere g.K.Link.told b _);
@@ -244,14 +265,16 @@ loop-preserved g c =
         shelf = w.serve_piece.ensures.shelf ∙ (c.is_cancelled.ensures.shelf ∙ c.loop.invariant.shelf);
         seat = (w.serve_piece.ensures.seat.0 ∙ moved.here.seat_is.0, w.serve_piece.ensures.seat.1 ∙ moved.here.seat_is.1, w.serve_piece.ensures.seat.2 ∙ moved.here.seat_is.2, w.serve_piece.ensures.seat.3 ∙ moved.here.seat_is.3);
         users = (w.serve_piece.ensures.users.0 ∙ moved.here.users_are.0, w.serve_piece.ensures.users.1 ∙ moved.here.users_are.1, w.serve_piece.ensures.users.2 ∙ moved.here.users_are.2, w.serve_piece.ensures.users.3 ∙ moved.here.users_are.3);
-        stands = λ b at saw users first. goes_on_is _ _ _ _ _ _ _ _ _ _ _ _ (w.in-Ok-On.is ∙ ap (λ (p : Progress). Ok p) w.in-Ok-On.field-0-is) (moved_goes arc_value c.args.desk.now.attending.user g.K.Link.told g.C.Timestamps.told _ (g.K.Link.state w.serve_piece.new.link) (g.C.Timestamps.coming c.loop.clock) (g.C.Timestamps.coming w.serve_piece.new.clock) (now c.is_cancelled.new.desk) (now w.serve_piece.new.desk) false c.is_cancelled.new.desk.reader w.serve_piece.new.desk.reader w.serve_piece.result c.args.desk.now.shelf c.is_cancelled.new.desk.shelf c.args.desk.now.seat c.is_cancelled.new.desk.seat c.args.desk.now.users.seat c.is_cancelled.new.desk.users.seat _ [] (c.is_cancelled.ensures.shelf ∙ c.loop.invariant.shelf) moved.here.seat_is moved.here.users_are (w.serve_piece.ensures.goes c.args.desk.now.attending.user) _ _ b at (stands_piece _ _ _ _ _ _ _ _ _ _ _ _ _ _ (moved.here.stands b at saw users first) w.in-Bytes.ensures.read (grind (arith, common_steps))));
+        stands = λ b at saw users first. (read_goes (telling g.K.Link.told g.C.Timestamps.told g.C.Timestamps.stamped) (desk_at (g.K.Link.state c.read.new.self) (g.C.Timestamps.coming c.loop.clock) c.is_cancelled.new.desk) (desk_at (g.K.Link.state w.serve_piece.new.link) (g.C.Timestamps.coming w.serve_piece.new.clock) w.serve_piece.new.desk) (to_read c.is_cancelled.new.desk.attending c.is_cancelled.new.desk.reader _) w.serve_piece.new.desk.reader [] w.serve_piece.result (arc_value c.args.desk.now.shelf) c.args.desk.now.seat c.args.desk.now.users.seat c.args.desk.now.attending.user (g.K.Link.state c.args.link.now) (g.K.Link.state c.loop.link) (g.C.Timestamps.coming c.args.clock.now)
+          (ap arc_value (c.is_cancelled.ensures.shelf ∙ c.loop.invariant.shelf)) moved.here.seat_is moved.here.users_are w.serve_piece.ensures.goes _ _ w.in-Bytes.ensures.read (Ok On) (w.in-Ok-On.is ∙ ap (λ (p : Progress). Ok p) w.in-Ok-On.field-0-is) b at (moved.here.stands b at saw users first).past.walk (moved.here.timely b at saw users first)
+          (went_to g.K.Link.told b _ (g.K.Link.state w.serve_piece.new.link) c.is_cancelled.new.desk.seat c.is_cancelled.new.desk.users.seat (moved.here.seat_is.0 ∙ at.0, moved.here.seat_is.1 ∙ at.1, moved.here.users_are.0 ∙ at.2, moved.here.users_are.1 ∙ at.3) w.serve_piece.ensures.link _ _ _ w.serve_piece.ensures.asked)
+          (stands_piece _ _ _ _ _ _ _ _ _ _ _ _ _ _ (moved.here.stands b at saw users first) w.in-Bytes.ensures.read (grind (arith, common_steps))) begins).goes;
         prompt = prompt_more (language_for c.args.desk.now.attending.user (arc_value c.args.desk.now.shelf)) g.K.Link.begun g.K.Link.told g.C.Timestamps.told (g.K.Link.state c.args.link.now) (g.C.Timestamps.coming c.args.clock.now) c.args.desk.now.seat c.args.desk.now.users.seat (g.K.Link.state c.loop.link) (g.K.Link.state w.serve_piece.new.link) _ (g.C.Timestamps.coming c.loop.clock) (now c.is_cancelled.new.desk) c.is_cancelled.new.desk.reader c.loop.invariant.prompt w.in-Bytes.ensures.begun moved.here.stands w.in-Bytes.ensures.read.reads w.serve_piece.ensures.link.wrote.reads;
         heeds = λ limits. heeds_more (language_for c.args.desk.now.attending.user (arc_value c.args.desk.now.shelf)) g.K.Link.begun g.K.Link.told g.C.Timestamps.told (g.K.Link.state c.args.link.now) (g.C.Timestamps.coming c.args.clock.now) c.args.desk.now.seat c.args.desk.now.users.seat (g.K.Link.state c.loop.link) (g.K.Link.state w.serve_piece.new.link) _ (g.C.Timestamps.coming c.loop.clock) (now c.is_cancelled.new.desk) c.is_cancelled.new.desk.reader (c.loop.invariant.heeds limits) w.in-Bytes.ensures.begun (λ b at saw users first. (moved.here.stands b at saw users first, moved.unended c.if-is_cancelled.false limits b at saw users first)) w.in-Bytes.ensures.read.reads w.serve_piece.ensures.link.wrote.reads;
-        timely = λ b at saw users first.
-            timely_read (language_for c.args.desk.now.attending.user (arc_value c.args.desk.now.shelf)) (telling g.K.Link.told g.C.Timestamps.told g.C.Timestamps.stamped) (starting (g.K.Link.state c.args.link.now) (g.C.Timestamps.coming c.args.clock.now) b) (g.K.Link.state c.args.link.now) (g.K.Link.state c.loop.link) c.is_cancelled.new.desk.seat.seen c.is_cancelled.new.desk.users.seat.seen (moved.here.timely b at saw users first) _ _ _ _ w.in-Bytes.ensures.read
-            (timely_moved arc_value (telling g.K.Link.told g.C.Timestamps.told g.C.Timestamps.stamped) (g.C.Timestamps.coming c.loop.clock) _ _ (in_hand c.is_cancelled.new.desk.attending false More c.is_cancelled.new.desk.reader _) c.args.desk.now.shelf c.is_cancelled.new.desk.shelf c.args.desk.now.seat c.is_cancelled.new.desk.seat c.args.desk.now.users.seat c.is_cancelled.new.desk.users.seat (c.is_cancelled.ensures.shelf ∙ c.loop.invariant.shelf) moved.here.seat_is moved.here.users_are w.serve_piece.ensures.timely c.args.desk.now.attending.user _ _ b at
-            (stands_piece _ _ _ _ _ _ _ _ _ _ _ _ _ _ (moved.here.stands b at saw users first) w.in-Bytes.ensures.read (grind (arith, common_steps))))
-            (went_to g.K.Link.told b _ (g.K.Link.state w.serve_piece.new.link) c.is_cancelled.new.desk.seat c.is_cancelled.new.desk.users.seat (moved.here.seat_is.0 ∙ at.0, moved.here.seat_is.1 ∙ at.1, moved.here.users_are.0 ∙ at.2, moved.here.users_are.1 ∙ at.3) w.serve_piece.ensures.link _ _ _ w.serve_piece.ensures.asked);
+        timely = λ b at saw users first. (read_goes (telling g.K.Link.told g.C.Timestamps.told g.C.Timestamps.stamped) (desk_at (g.K.Link.state c.read.new.self) (g.C.Timestamps.coming c.loop.clock) c.is_cancelled.new.desk) (desk_at (g.K.Link.state w.serve_piece.new.link) (g.C.Timestamps.coming w.serve_piece.new.clock) w.serve_piece.new.desk) (to_read c.is_cancelled.new.desk.attending c.is_cancelled.new.desk.reader _) w.serve_piece.new.desk.reader [] w.serve_piece.result (arc_value c.args.desk.now.shelf) c.args.desk.now.seat c.args.desk.now.users.seat c.args.desk.now.attending.user (g.K.Link.state c.args.link.now) (g.K.Link.state c.loop.link) (g.C.Timestamps.coming c.args.clock.now)
+          (ap arc_value (c.is_cancelled.ensures.shelf ∙ c.loop.invariant.shelf)) moved.here.seat_is moved.here.users_are w.serve_piece.ensures.goes _ _ w.in-Bytes.ensures.read (Ok On) (w.in-Ok-On.is ∙ ap (λ (p : Progress). Ok p) w.in-Ok-On.field-0-is) b at (moved.here.stands b at saw users first).past.walk (moved.here.timely b at saw users first)
+          (went_to g.K.Link.told b _ (g.K.Link.state w.serve_piece.new.link) c.is_cancelled.new.desk.seat c.is_cancelled.new.desk.users.seat (moved.here.seat_is.0 ∙ at.0, moved.here.seat_is.1 ∙ at.1, moved.here.users_are.0 ∙ at.2, moved.here.users_are.1 ∙ at.3) w.serve_piece.ensures.link _ _ _ w.serve_piece.ensures.asked)
+          (stands_piece _ _ _ _ _ _ _ _ _ _ _ _ _ _ (moved.here.stands b at saw users first) w.in-Bytes.ensures.read (grind (arith, common_steps))) begins).timely;
         gate = stayed_ok On w.serve_piece.result _ _ (w.in-Ok-On.is ∙ ap (λ (p : Progress). Ok p) w.in-Ok-On.field-0-is) w.serve_piece.ensures.stopped ∙ c.loop.invariant.gate;
         counted = rw w.serve_piece.ensures.link.wrote.reads (counted_more _ _ _ _ c.loop.invariant.counted w.in-Bytes.ensures.read.reads);
         faults = w.serve_piece.ensures.link.wrote.read_faults ∙ w.in-Bytes.ensures.read.no_fault (bytes_came _) ∙ c.loop.invariant.faults;
@@ -268,15 +291,16 @@ loop-preserved g c =
         shelf = w.report.ensures.shelf ∙ (c.is_cancelled.ensures.shelf ∙ c.loop.invariant.shelf);
         seat = (w.report.ensures.seat.0 ∙ moved.here.seat_is.0, w.report.ensures.seat.1 ∙ moved.here.seat_is.1, w.report.ensures.seat.2 ∙ moved.here.seat_is.2, w.report.ensures.seat.3 ∙ moved.here.seat_is.3);
         users = (ap (λ (u : UserDesk g.row.U.Denot). u.seat.opening) w.report.ensures.users ∙ moved.here.users_are.0, ap (λ (u : UserDesk g.row.U.Denot). u.seat.place) w.report.ensures.users ∙ moved.here.users_are.1, ap (λ (u : UserDesk g.row.U.Denot). u.seat.places) w.report.ensures.users ∙ moved.here.users_are.2, ap (λ (u : UserDesk g.row.U.Denot). u.seat.turnstile) w.report.ensures.users ∙ moved.here.users_are.3);
-        stands = λ b at saw users first. subst (λ (r : Reader). Stands (language_for c.args.desk.now.attending.user (arc_value c.args.desk.now.shelf)) g.K.Link.told g.C.Timestamps.told (g.K.Link.state c.args.link.now) (g.K.Link.state w.report.new.link) (g.C.Timestamps.coming c.args.clock.now) (g.C.Timestamps.coming w.report.new.clock) b (now w.report.new.desk) false More r []) (sym w.report.ensures.reader)
-            (goes_on_is _ _ _ _ _ _ _ _ _ _ _ _ (ap (λ (p : Progress). Ok p) w.in-On.is) (moved_goes arc_value c.args.desk.now.attending.user g.K.Link.told g.C.Timestamps.told _ (g.K.Link.state w.report.new.link) (g.C.Timestamps.coming c.loop.clock) (g.C.Timestamps.coming w.report.new.clock) (now c.is_cancelled.new.desk) (now w.report.new.desk) (is_some c.is_cancelled.new.desk.attending.watch) c.is_cancelled.new.desk.reader c.is_cancelled.new.desk.reader (Ok w.report.result) c.args.desk.now.shelf c.is_cancelled.new.desk.shelf c.args.desk.now.seat c.is_cancelled.new.desk.seat c.args.desk.now.users.seat c.is_cancelled.new.desk.users.seat [] [] (c.is_cancelled.ensures.shelf ∙ c.loop.invariant.shelf) moved.here.seat_is moved.here.users_are (λ k c1 b1. w.report.ensures.goes c.is_cancelled.new.desk.reader [] c.args.desk.now.attending.user k c1 b1) _ _ b at (stands_quiet _ _ _ _ _ _ _ _ _ _ _ _ (moved.here.stands b at saw users first) w.in-Quiet.ensures.read)));
+        stands = λ b at saw users first. (read_goes (telling g.K.Link.told g.C.Timestamps.told g.C.Timestamps.stamped) (desk_at (g.K.Link.state c.read.new.self) (g.C.Timestamps.coming c.loop.clock) c.is_cancelled.new.desk) (desk_at (g.K.Link.state w.report.new.link) (g.C.Timestamps.coming w.report.new.clock) w.report.new.desk) (to_report c.is_cancelled.new.desk.attending c.is_cancelled.new.desk.reader []) c.is_cancelled.new.desk.reader [] (Ok w.report.result) (arc_value c.args.desk.now.shelf) c.args.desk.now.seat c.args.desk.now.users.seat c.args.desk.now.attending.user (g.K.Link.state c.args.link.now) (g.K.Link.state c.loop.link) (g.C.Timestamps.coming c.args.clock.now)
+          (ap arc_value (c.is_cancelled.ensures.shelf ∙ c.loop.invariant.shelf)) moved.here.seat_is moved.here.users_are (w.report.ensures.goes c.is_cancelled.new.desk.reader []) _ _ w.in-Quiet.ensures.read (Ok On) (ap (λ (p : Progress). Ok p) w.in-On.is) b at (moved.here.stands b at saw users first).past.walk (moved.here.timely b at saw users first)
+          (looked_to g.K.Link.told b _ (g.K.Link.state w.report.new.link) c.is_cancelled.new.desk.seat c.is_cancelled.new.desk.users.seat (moved.here.seat_is.0 ∙ at.0, moved.here.seat_is.1 ∙ at.1, moved.here.users_are.0 ∙ at.2, moved.here.users_are.1 ∙ at.3) w.report.ensures.link _ _ (ap (λ (u : UserDesk g.row.U.Denot). u.seat.seen) w.report.ensures.users) w.report.ensures.entered)
+          (stands_quiet _ _ _ _ _ _ _ _ _ _ _ _ (moved.here.stands b at saw users first) w.in-Quiet.ensures.read) (waits _ (moved.here.stands b at saw users first).past.looked begins)).goes;
         prompt = prompt_more (language_for c.args.desk.now.attending.user (arc_value c.args.desk.now.shelf)) g.K.Link.begun g.K.Link.told g.C.Timestamps.told (g.K.Link.state c.args.link.now) (g.C.Timestamps.coming c.args.clock.now) c.args.desk.now.seat c.args.desk.now.users.seat (g.K.Link.state c.loop.link) (g.K.Link.state w.report.new.link) _ (g.C.Timestamps.coming c.loop.clock) (now c.is_cancelled.new.desk) c.is_cancelled.new.desk.reader c.loop.invariant.prompt w.in-Quiet.ensures.begun moved.here.stands w.in-Quiet.ensures.read.reads w.report.ensures.link.wrote.reads;
         heeds = λ limits. heeds_more (language_for c.args.desk.now.attending.user (arc_value c.args.desk.now.shelf)) g.K.Link.begun g.K.Link.told g.C.Timestamps.told (g.K.Link.state c.args.link.now) (g.C.Timestamps.coming c.args.clock.now) c.args.desk.now.seat c.args.desk.now.users.seat (g.K.Link.state c.loop.link) (g.K.Link.state w.report.new.link) _ (g.C.Timestamps.coming c.loop.clock) (now c.is_cancelled.new.desk) c.is_cancelled.new.desk.reader (c.loop.invariant.heeds limits) w.in-Quiet.ensures.begun (λ b at saw users first. (moved.here.stands b at saw users first, moved.unended c.if-is_cancelled.false limits b at saw users first)) w.in-Quiet.ensures.read.reads w.report.ensures.link.wrote.reads;
-        timely = λ b at saw users first.
-            timely_read (language_for c.args.desk.now.attending.user (arc_value c.args.desk.now.shelf)) (telling g.K.Link.told g.C.Timestamps.told g.C.Timestamps.stamped) (starting (g.K.Link.state c.args.link.now) (g.C.Timestamps.coming c.args.clock.now) b) (g.K.Link.state c.args.link.now) (g.K.Link.state c.loop.link) c.is_cancelled.new.desk.seat.seen c.is_cancelled.new.desk.users.seat.seen (moved.here.timely b at saw users first) _ _ _ _ w.in-Quiet.ensures.read
-            (timely_moved arc_value (telling g.K.Link.told g.C.Timestamps.told g.C.Timestamps.stamped) (g.C.Timestamps.coming c.loop.clock) _ _ (in_hand c.is_cancelled.new.desk.attending (is_some c.is_cancelled.new.desk.attending.watch) More c.is_cancelled.new.desk.reader []) c.args.desk.now.shelf c.is_cancelled.new.desk.shelf c.args.desk.now.seat c.is_cancelled.new.desk.seat c.args.desk.now.users.seat c.is_cancelled.new.desk.users.seat (c.is_cancelled.ensures.shelf ∙ c.loop.invariant.shelf) moved.here.seat_is moved.here.users_are (w.report.ensures.timely c.is_cancelled.new.desk.reader []) c.args.desk.now.attending.user _ _ b at
-            (stands_quiet _ _ _ _ _ _ _ _ _ _ _ _ (moved.here.stands b at saw users first) w.in-Quiet.ensures.read))
-            (looked_to g.K.Link.told b _ (g.K.Link.state w.report.new.link) c.is_cancelled.new.desk.seat c.is_cancelled.new.desk.users.seat (moved.here.seat_is.0 ∙ at.0, moved.here.seat_is.1 ∙ at.1, moved.here.users_are.0 ∙ at.2, moved.here.users_are.1 ∙ at.3) w.report.ensures.link _ _ (ap (λ (u : UserDesk g.row.U.Denot). u.seat.seen) w.report.ensures.users) w.report.ensures.entered);
+        timely = λ b at saw users first. (read_goes (telling g.K.Link.told g.C.Timestamps.told g.C.Timestamps.stamped) (desk_at (g.K.Link.state c.read.new.self) (g.C.Timestamps.coming c.loop.clock) c.is_cancelled.new.desk) (desk_at (g.K.Link.state w.report.new.link) (g.C.Timestamps.coming w.report.new.clock) w.report.new.desk) (to_report c.is_cancelled.new.desk.attending c.is_cancelled.new.desk.reader []) c.is_cancelled.new.desk.reader [] (Ok w.report.result) (arc_value c.args.desk.now.shelf) c.args.desk.now.seat c.args.desk.now.users.seat c.args.desk.now.attending.user (g.K.Link.state c.args.link.now) (g.K.Link.state c.loop.link) (g.C.Timestamps.coming c.args.clock.now)
+          (ap arc_value (c.is_cancelled.ensures.shelf ∙ c.loop.invariant.shelf)) moved.here.seat_is moved.here.users_are (w.report.ensures.goes c.is_cancelled.new.desk.reader []) _ _ w.in-Quiet.ensures.read (Ok On) (ap (λ (p : Progress). Ok p) w.in-On.is) b at (moved.here.stands b at saw users first).past.walk (moved.here.timely b at saw users first)
+          (looked_to g.K.Link.told b _ (g.K.Link.state w.report.new.link) c.is_cancelled.new.desk.seat c.is_cancelled.new.desk.users.seat (moved.here.seat_is.0 ∙ at.0, moved.here.seat_is.1 ∙ at.1, moved.here.users_are.0 ∙ at.2, moved.here.users_are.1 ∙ at.3) w.report.ensures.link _ _ (ap (λ (u : UserDesk g.row.U.Denot). u.seat.seen) w.report.ensures.users) w.report.ensures.entered)
+          (stands_quiet _ _ _ _ _ _ _ _ _ _ _ _ (moved.here.stands b at saw users first) w.in-Quiet.ensures.read) (waits _ (moved.here.stands b at saw users first).past.looked begins)).timely;
         gate = c.loop.invariant.gate;
         counted = rw w.report.ensures.link.wrote.reads (counted_more _ _ _ _ c.loop.invariant.counted w.in-Quiet.ensures.read.reads);
         faults = w.report.ensures.link.wrote.read_faults ∙ w.in-Quiet.ensures.read.no_fault quiet_came ∙ c.loop.invariant.faults;
@@ -302,25 +326,27 @@ returns-in-Cut g c =
     let b : Beginning = record { opening = seat.opening; users = c.args.desk.now.users.seat.opening; place = seat.place; before = h.0; users_before = p.0; first = done_before seat c.args.desk.now.users.seat p.1.marks } in
     let cut : ◌≡◌ {A = Result Progress Stopped} (Ok c.report.result) (Ok Cut) = ap (λ (p : Progress). Ok p) c.in-Cut.is in
     let going : (g.K.Link.state c.report.new.link).ended ≡ false = c.report.ensures.link.wrote.ended ∙ c.in-Quiet.ensures.read.ended in
-    let breaks = goes_cut_is _ _ _ _ _ _ _ _ _ _ _ _ _ cut (moved_goes arc_value c.args.desk.now.attending.user g.K.Link.told g.C.Timestamps.told _ (g.K.Link.state c.report.new.link) (g.C.Timestamps.coming c.loop.clock) (g.C.Timestamps.coming c.report.new.clock) (now c.is_cancelled.new.desk) (now c.report.new.desk) (is_some c.is_cancelled.new.desk.attending.watch) c.is_cancelled.new.desk.reader c.is_cancelled.new.desk.reader (Ok c.report.result) c.args.desk.now.shelf c.is_cancelled.new.desk.shelf c.args.desk.now.seat c.is_cancelled.new.desk.seat c.args.desk.now.users.seat c.is_cancelled.new.desk.users.seat [] [] (c.is_cancelled.ensures.shelf ∙ c.loop.invariant.shelf) moved.here.seat_is moved.here.users_are (λ k c1 b1. c.report.ensures.goes c.is_cancelled.new.desk.reader [] c.args.desk.now.attending.user k c1 b1) _ _ b (refl, refl, refl, c.args.desk.now.same_place) (stands_quiet _ _ _ _ _ _ _ _ _ _ _ _ (moved.here.stands b (refl, refl, refl, c.args.desk.now.same_place) h.1 p.1 (record { stamps_are = refl; users_stamps_are = refl; codes_are = p.1.codes_are })) c.in-Quiet.ensures.read)) in
+    let timely : WasTimely (language_for c.args.desk.now.attending.user (arc_value c.args.desk.now.shelf)) (telling g.K.Link.told g.C.Timestamps.told g.C.Timestamps.stamped) (stamp_at (g.C.Timestamps.coming c.args.clock.now) (g.K.Link.state c.args.link.now) c.args.desk.now.seat c.args.desk.now.users.seat) (stamp_at (g.C.Timestamps.coming c.report.new.clock) (g.K.Link.state c.report.new.link) c.report.new.desk.seat c.report.new.desk.users.seat) WriteFault = λ b at saw users first.
+        let x = read_goes (telling g.K.Link.told g.C.Timestamps.told g.C.Timestamps.stamped) (desk_at (g.K.Link.state c.read.new.self) (g.C.Timestamps.coming c.loop.clock) c.is_cancelled.new.desk) (desk_at (g.K.Link.state c.report.new.link) (g.C.Timestamps.coming c.report.new.clock) c.report.new.desk) (to_report c.is_cancelled.new.desk.attending c.is_cancelled.new.desk.reader []) c.is_cancelled.new.desk.reader [] (Ok c.report.result) (arc_value c.args.desk.now.shelf) c.args.desk.now.seat c.args.desk.now.users.seat c.args.desk.now.attending.user (g.K.Link.state c.args.link.now) (g.K.Link.state c.loop.link) (g.C.Timestamps.coming c.args.clock.now)
+          (ap arc_value (c.is_cancelled.ensures.shelf ∙ c.loop.invariant.shelf)) moved.here.seat_is moved.here.users_are (c.report.ensures.goes c.is_cancelled.new.desk.reader []) _ _ c.in-Quiet.ensures.read (Ok Cut) cut b at (moved.here.stands b at saw users first).past.walk (moved.here.timely b at saw users first)
+          (looked_to g.K.Link.told b _ (g.K.Link.state c.report.new.link) c.is_cancelled.new.desk.seat c.is_cancelled.new.desk.users.seat (moved.here.seat_is.0 ∙ at.0, moved.here.seat_is.1 ∙ at.1, moved.here.users_are.0 ∙ at.2, moved.here.users_are.1 ∙ at.3) c.report.ensures.link _ _ (ap (λ (u : UserDesk g.row.U.Denot). u.seat.seen) c.report.ensures.users) c.report.ensures.entered)
+          (stands_quiet _ _ _ _ _ _ _ _ _ _ _ _ (moved.here.stands b at saw users first) c.in-Quiet.ensures.read) (waits _ (moved.here.stands b at saw users first).past.looked begins) in
+        record { attending = _; session = x.goes; timely = x.timely } in
+    let at_end = timely b (refl, refl, refl, c.args.desk.now.same_place) h.1 p.1 (record { stamps_are = refl; users_stamps_are = refl; codes_are = p.1.codes_are }) in
     record {
       shelf = c.report.ensures.shelf ∙ (c.is_cancelled.ensures.shelf ∙ c.loop.invariant.shelf);
       seat = (c.report.ensures.seat.0 ∙ moved.here.seat_is.0, c.report.ensures.seat.1 ∙ moved.here.seat_is.1, c.report.ensures.seat.2 ∙ moved.here.seat_is.2, c.report.ensures.seat.3 ∙ moved.here.seat_is.3);
       users = (ap (λ (u : UserDesk g.row.U.Denot). u.seat.opening) c.report.ensures.users ∙ moved.here.users_are.0, ap (λ (u : UserDesk g.row.U.Denot). u.seat.place) c.report.ensures.users ∙ moved.here.users_are.1, ap (λ (u : UserDesk g.row.U.Denot). u.seat.places) c.report.ensures.users ∙ moved.here.users_are.2, ap (λ (u : UserDesk g.row.U.Denot). u.seat.turnstile) c.report.ensures.users ∙ moved.here.users_are.3);
       hung_up = c.report.ensures.hung_up ∙ c.in-Quiet.ensures.hung_up ∙ c.loop.invariant.hung_up;
-      session = record { before = h.0; users_before = p.0; saw = h.1; users_saw = p.1; attending = _; session = breaks };
+      session = record { before = h.0; users_before = p.0; saw = h.1; users_saw = p.1; attending = at_end.attending; session = at_end.session };
       prompt = prompt_more (language_for c.args.desk.now.attending.user (arc_value c.args.desk.now.shelf)) g.K.Link.begun g.K.Link.told g.C.Timestamps.told (g.K.Link.state c.args.link.now) (g.C.Timestamps.coming c.args.clock.now) c.args.desk.now.seat c.args.desk.now.users.seat (g.K.Link.state c.loop.link) (g.K.Link.state c.report.new.link) _ (g.C.Timestamps.coming c.loop.clock) (now c.is_cancelled.new.desk) c.is_cancelled.new.desk.reader c.loop.invariant.prompt c.in-Quiet.ensures.begun moved.here.stands c.in-Quiet.ensures.read.reads c.report.ensures.link.wrote.reads;
       heeds = λ limits. heeds_more (language_for c.args.desk.now.attending.user (arc_value c.args.desk.now.shelf)) g.K.Link.begun g.K.Link.told g.C.Timestamps.told (g.K.Link.state c.args.link.now) (g.C.Timestamps.coming c.args.clock.now) c.args.desk.now.seat c.args.desk.now.users.seat (g.K.Link.state c.loop.link) (g.K.Link.state c.report.new.link) _ (g.C.Timestamps.coming c.loop.clock) (now c.is_cancelled.new.desk) c.is_cancelled.new.desk.reader (c.loop.invariant.heeds limits) c.in-Quiet.ensures.begun (λ b at saw users first. (moved.here.stands b at saw users first, moved.unended c.if-is_cancelled.false limits b at saw users first)) c.in-Quiet.ensures.read.reads c.report.ensures.link.wrote.reads;
-      timely = λ b at saw users first.
-          timely_read (language_for c.args.desk.now.attending.user (arc_value c.args.desk.now.shelf)) (telling g.K.Link.told g.C.Timestamps.told g.C.Timestamps.stamped) (starting (g.K.Link.state c.args.link.now) (g.C.Timestamps.coming c.args.clock.now) b) (g.K.Link.state c.args.link.now) (g.K.Link.state c.loop.link) c.is_cancelled.new.desk.seat.seen c.is_cancelled.new.desk.users.seat.seen (moved.here.timely b at saw users first) _ _ _ _ c.in-Quiet.ensures.read
-          (timely_moved arc_value (telling g.K.Link.told g.C.Timestamps.told g.C.Timestamps.stamped) (g.C.Timestamps.coming c.loop.clock) _ _ (in_hand c.is_cancelled.new.desk.attending (is_some c.is_cancelled.new.desk.attending.watch) More c.is_cancelled.new.desk.reader []) c.args.desk.now.shelf c.is_cancelled.new.desk.shelf c.args.desk.now.seat c.is_cancelled.new.desk.seat c.args.desk.now.users.seat c.is_cancelled.new.desk.users.seat (c.is_cancelled.ensures.shelf ∙ c.loop.invariant.shelf) moved.here.seat_is moved.here.users_are (c.report.ensures.timely c.is_cancelled.new.desk.reader []) c.args.desk.now.attending.user _ _ b at
-          (stands_quiet _ _ _ _ _ _ _ _ _ _ _ _ (moved.here.stands b at saw users first) c.in-Quiet.ensures.read))
-          (looked_to g.K.Link.told b _ (g.K.Link.state c.report.new.link) c.is_cancelled.new.desk.seat c.is_cancelled.new.desk.users.seat (moved.here.seat_is.0 ∙ at.0, moved.here.seat_is.1 ∙ at.1, moved.here.users_are.0 ∙ at.2, moved.here.users_are.1 ∙ at.3) c.report.ensures.link _ _ (ap (λ (u : UserDesk g.row.U.Denot). u.seat.seen) c.report.ensures.users) c.report.ensures.entered);
+      timely = timely;
       end = ((λ is. write_no _ is refl), (λ ended. unheld _ going ended));
       all_read = λ t is. write_no _ is refl;
       read_fault = λ is. write_no _ is refl;
       no_read_fault = λ is. c.report.ensures.link.wrote.read_faults ∙ c.in-Quiet.ensures.read.no_fault quiet_came ∙ c.loop.invariant.faults;
-      write_fault = λ is. breaks.rose;
+      write_fault = λ is. at_end.session.rose;
       stopped = λ is. write_no _ is refl;
       unstopped = λ is. c.loop.invariant.gate;
       later = stayed _ _ c.loop.invariant.gate;
@@ -350,7 +376,7 @@ pub returns-clause-prompt : goal.returns-clause-prompt
 returns-clause-prompt g c = c.loop.invariant.prompt
 
 pub returns-clause-timely : goal.returns-clause-timely
-returns-clause-timely g c = c.loop.invariant.timely
+returns-clause-timely g c = λ b at saw users first. record { attending = c.loop.desk.attending; session = served_here _ _ _ _ _ _ _ _ _ _ (c.loop.invariant.stands b at saw users first); timely = c.loop.invariant.timely b at saw users first }
 
 pub returns-then-is_over : goal.returns-then-is_over
 returns-then-is_over g c =
@@ -367,7 +393,7 @@ returns-then-is_over g c =
       users = i.users;
       session = record { before = h.0; users_before = p.0; saw = h.1; users_saw = p.1; attending = c.loop.desk.attending; session = record { served = served_here _ _ _ _ _ _ _ _ _ _ (i.stands b (refl, refl, refl, c.args.desk.now.same_place) h.1 p.1 (record { stamps_are = refl; users_stamps_are = refl; codes_are = p.1.codes_are })); nobody = over.1 } };
       prompt = i.prompt;
-      timely = i.timely;
+      timely = λ b at saw users first. record { attending = c.loop.desk.attending; session = record { served = served_here _ _ _ _ _ _ _ _ _ _ (i.stands b at saw users first); nobody = over.1 }; timely = i.timely b at saw users first };
       end = ((λ is. unattended_no _ is refl), (λ ended. unheld _ (i.not_ended (some_made c.loop.counter c.loop.waited over.2 i.waits.few)) ended));
       all_read = λ t is. unattended_no _ is refl;
       read_fault = λ is. unattended_no _ is refl;
@@ -406,7 +432,7 @@ returns-then-is_idle g c =
       users = i.users;
       session = record { before = h.0; users_before = p.0; saw = h.1; users_saw = p.1; attending = c.loop.desk.attending; session = served_here _ _ _ _ _ _ _ _ _ _ (i.stands b (refl, refl, refl, c.args.desk.now.same_place) h.1 p.1 (record { stamps_are = refl; users_stamps_are = refl; codes_are = p.1.codes_are })) };
       prompt = i.prompt;
-      timely = i.timely;
+      timely = λ b at saw users first. record { attending = c.loop.desk.attending; session = served_here _ _ _ _ _ _ _ _ _ _ (i.stands b at saw users first); timely = i.timely b at saw users first };
       end = ((λ is. idle_no _ is refl), (λ ended. unheld _ (i.not_ended (some_silent ((arc_value c.args.desk.now.shelf).idle) c.loop.desk.attending.user c.loop.counter c.loop.silent long i.idles.few)) ended));
       all_read = λ t is. idle_no _ is refl;
       read_fault = λ is. idle_no _ is refl;
@@ -463,7 +489,7 @@ returns-then-is_cancelled g c =
       users = moved.here.users_are;
       session = record { before = h.0; users_before = p.0; saw = h.1; users_saw = p.1; attending = c.is_cancelled.new.desk.attending; session = record { served = served_here _ _ _ _ _ _ _ _ _ _ (moved.here.stands b (refl, refl, refl, c.args.desk.now.same_place) h.1 p.1 (record { stamps_are = refl; users_stamps_are = refl; codes_are = p.1.codes_are })); ended = moved.ended c.if-is_cancelled.true b (refl, refl, refl, c.args.desk.now.same_place) h.1 p.1 (record { stamps_are = refl; users_stamps_are = refl; codes_are = p.1.codes_are }) } };
       prompt = i.prompt;
-      timely = moved.here.timely;
+      timely = λ b at saw users first. record { attending = c.is_cancelled.new.desk.attending; session = record { served = served_here _ _ _ _ _ _ _ _ _ _ (moved.here.stands b at saw users first); ended = moved.ended c.if-is_cancelled.true b at saw users first }; timely = moved.here.timely b at saw users first };
       end = ((λ is. cancelled_no _ is refl), (λ ended. unheld _ (made_one c.loop.counter (λ none. somebody_ended b.place c.is_cancelled.new.desk.attending.user _ (moved.ended c.if-is_cancelled.true b (refl, refl, refl, c.args.desk.now.same_place) h.1 p.1 (record { stamps_are = refl; users_stamps_are = refl; codes_are = p.1.codes_are })) (ap (λ (a : Attending). a.user) c.is_cancelled.ensures.attending ∙ i.vacant (c.is_cancelled.ensures.limited c.if-is_cancelled.true) none)) i.not_ended) ended));
       all_read = λ t is. cancelled_no _ is refl;
       read_fault = λ is. cancelled_no _ is refl;

@@ -12,8 +12,7 @@ use Rattle.craft_session.specs.Meanings.{language_for}
 use Rattle.craft_session.specs.Noted.{HasNoted, stood}
 use Rattle.craft_session.specs.Seats.{IsSameSeat, IsSameUserSeat}
 use Rattle.craft_session.specs.Sessions.{Beginning, IsAt, IsFrom, IsPrompt, Stands}
-use Rattle.craft_session.specs.Stamps.{stamp_at}
-use Rattle.craft_session.specs.Timely.{WasTimely, reached, telling}
+use Rattle.craft_session.specs.Timely.{IsTimely, reached, starting, telling}
 use Rattle.craft_session.specs.declared.patience.Patience.TheVariants.{Limited}
 use Rattle.craft_session.proofs.Idling.{Idles}
 use Rattle.craft_session.proofs.Waiting.{Waits}
@@ -29,7 +28,8 @@ invariant-loop g l =
       users : IsSameUserSeat l.fn.desk.users.seat l.desk.users.seat;
       stands : (b : Beginning) → IsAt b l.fn.desk.seat l.fn.desk.users.seat → Saw b.opening l.fn.desk.seat.seen b.before → SawUsers b.users l.fn.desk.users.seat.seen b.users_before → IsFrom b l.fn.desk.seat l.fn.desk.users.seat → Stands (language_for l.fn.desk.attending.user (arc_value l.fn.desk.shelf)) g.K.Link.told g.C.Timestamps.told (state l.fn.link) (state l.link) (coming l.fn.clock) (coming l.clock) b (now l.desk) false More l.desk.reader [];
       prompt : IsPrompt (language_for l.fn.desk.attending.user (arc_value l.fn.desk.shelf)) g.K.Link.begun g.K.Link.told g.C.Timestamps.told (state l.fn.link) (state l.link) (coming l.fn.clock) l.fn.desk.seat l.fn.desk.users.seat;
-      timely : WasTimely (language_for l.fn.desk.attending.user (arc_value l.fn.desk.shelf)) (telling g.K.Link.told g.C.Timestamps.told g.C.Timestamps.stamped) (stamp_at (coming l.fn.clock) (state l.fn.link) l.fn.desk.seat l.fn.desk.users.seat) (reached (state l.link).written l.desk.seat.seen l.desk.users.seat.seen);
+      timely : (b : Beginning) (at : IsAt b l.fn.desk.seat l.fn.desk.users.seat) (saw : Saw b.opening l.fn.desk.seat.seen b.before) (users_saw : SawUsers b.users l.fn.desk.users.seat.seen b.users_before) (first : IsFrom b l.fn.desk.seat l.fn.desk.users.seat)
+          → IsTimely (language_for l.fn.desk.attending.user (arc_value l.fn.desk.shelf)) (telling g.K.Link.told g.C.Timestamps.told g.C.Timestamps.stamped) (starting (state l.fn.link) (coming l.fn.clock) b) (state l.fn.link) (reached (state l.link).written l.desk.seat.seen l.desk.users.seat.seen) (stands b at saw users_saw first).past.walk;
       gate : g.G.Gate.stops l.gate ≡ g.G.Gate.stops l.fn.gate;
       counted : Counted (state l.fn.link).reads (state l.link).reads l.counter;
       faults : (state l.link).read_faults ≡ (state l.fn.link).read_faults;

@@ -3,36 +3,32 @@ use Rattle.std.specs.Prelude.{IsErr}
 use Rattle.std.proofs.lemmas.List.{take_rest}
 use Rattle.std.specs.Arc.{arc_value}
 use Rattle.dxc_causes.specs.Stops.{RoseOnlyFor}
-use Rattle.dxc_outside.specs.declared.clock.Moment.{Moment}
 use Rattle.dxc_outside.specs.declared.stopped.Stopped.{Stopped}
-use Rattle.dxc_outside.specs.Links.{LinkState}
-use Rattle.dxc_outside.specs.Stops.{the_stop}
-use Rattle.dxc_model.specs.declared.user.SessionUser.{SessionUser}
-use Rattle.shelf_file.specs.Contents.{Contents}
+use Rattle.tl1_text.specs.Reading.{Reader}
 use Rattle.craft_session.specs.declared.end.Progress.{Progress}
 use Rattle.craft_session.specs.declared.end.Progress.TheVariants.{On, Cut}
 use Rattle.craft_session.specs.Desks.{now}
 use Rattle.craft_session.specs.Meanings.{language_for}
 use Rattle.craft_session.specs.Noted.{stood}
-use Rattle.craft_session.specs.Sessions.{Beginning, Goes, IsAt, Stands, now_of}
+use Rattle.craft_session.specs.Gathered.{GoesInTime, desk_at}
+use Rattle.craft_session.specs.Runs.{begins}
+use Rattle.craft_session.specs.Sessions.{IsAt}
 use Rattle.craft_session.specs.Timely.{in_hand, starting, telling}
 use Rattle.craft_session.proofs.Ends.{by_stop, is_stop, no_stop, rose_after, stayed_ok}
 use Rattle.craft_session.proofs.Gated.{are_entered_none, are_entered_on}
 use Rattle.craft_session.proofs.Noted.{noted_more, noted_moved, noted_none}
-use Rattle.craft_session.proofs.SessionSteps.{stands_on, goes_on_is, goes_cut_is, goes_stopped_is, writes_none, writes_more}
-use Rattle.craft_session.proofs.Timely.{timely_more, timely_moved, timely_none, went_to}
+use Rattle.craft_session.proofs.SessionSteps.{stands_on, writes_none, writes_more}
+use Rattle.craft_session.proofs.Timely.{goes_then, moved_goes, timely_none, went_to}
 use Rattle.craft_session.proofs.session.serve_units.Goals as goal
 
 pub loop-at-init : goal.loop-at-init
-loop-at-init g c = record { hung_up = refl; shelf = refl; seat = (refl, refl, refl, refl); users = (refl, refl, refl, refl); link = writes_none _ _; gate = refl; within = omega arith; asked = are_entered_none c.args.desk.now.seat c.args.desk.now.users.seat (g.G.Gate.asked c.args.gate.now c.args.gate.now) (g.G.Gate.unasked c.args.gate.now); noted = noted_none (arc_value c.args.desk.now.shelf) (telling g.K.Link.told g.C.Timestamps.told g.C.Timestamps.stamped) (stood (g.K.Link.state c.args.link.now) (g.C.Timestamps.coming c.args.clock.now) c.args.desk.now.seat c.args.desk.now.users.seat c.args.desk.now.attending) (g.N.Notes.noted c.args.notes.now c.args.notes.now) (g.N.Notes.unnoted c.args.notes.now); stands = λ user k c1 b at s. s; timely = λ user k c1 b at s. timely_none (language_for user (arc_value c.args.desk.now.shelf)) (telling g.K.Link.told g.C.Timestamps.told g.C.Timestamps.stamped) (starting k c1 b) (g.K.Link.state c.args.link.now) _ refl }
+loop-at-init g c = record { hung_up = refl; shelf = refl; seat = (refl, refl, refl, refl); users = (refl, refl, refl, refl); link = writes_none _ _; gate = refl; within = omega arith; asked = are_entered_none c.args.desk.now.seat c.args.desk.now.users.seat (g.G.Gate.asked c.args.gate.now c.args.gate.now) (g.G.Gate.unasked c.args.gate.now); noted = noted_none (arc_value c.args.desk.now.shelf) (telling g.K.Link.told g.C.Timestamps.told g.C.Timestamps.stamped) (stood (g.K.Link.state c.args.link.now) (g.C.Timestamps.coming c.args.clock.now) c.args.desk.now.seat c.args.desk.now.users.seat c.args.desk.now.attending) (g.N.Notes.noted c.args.notes.now c.args.notes.now) (g.N.Notes.unnoted c.args.notes.now); goes = λ user k c1 b at s. record { goes = s; ran_on = begins; timely = timely_none (language_for user (arc_value c.args.desk.now.shelf)) (telling g.K.Link.told g.C.Timestamps.told g.C.Timestamps.stamped) (starting k c1 b) (g.K.Link.state c.args.link.now) _ s.past.walk refl } }
 
 pub loop-at-preserved : goal.loop-at-preserved
 loop-at-preserved g c =
     let piece : List ℕ = c.args.piece.now in
     let offer = take_rest piece c.loop-at.at in
     let on : c.serve_unit.result ≡ Ok On = c.in_ok-serve_unit.was ∙ ap (λ (p : Progress). Ok p) c.in-On.is in
-    let goes = subst (λ (y : Contents). (user : SessionUser) (k : LinkState) (c2 : List Moment) (b : Beginning) (ahead : List ℕ) → IsAt b c.loop-at.desk.seat c.loop-at.desk.users.seat → Stands (language_for user y) g.K.Link.told g.C.Timestamps.told k (g.K.Link.state c.loop-at.link) c2 (g.C.Timestamps.coming c.loop-at.clock) b (now_of c.loop-at.desk.seat c.loop-at.desk.users.seat c.loop-at.desk.attending) false c.feed-fed.result.unit c.feed-fed.new.self ahead
-    → Goes (language_for user y) g.K.Link.told g.C.Timestamps.told k (g.K.Link.state c.serve_unit.new.link) c2 (g.C.Timestamps.coming c.serve_unit.new.clock) b (now c.serve_unit.new.desk) c.serve_unit.result false c.feed-fed.new.self ahead) (ap arc_value c.loop-at.invariant.shelf) (λ user k c2 b ahead. c.serve_unit.ensures.goes ahead user k c2 b) in
     record {
       shelf = c.serve_unit.ensures.shelf ∙ c.loop-at.invariant.shelf;
       seat = (c.serve_unit.ensures.seat.0 ∙ c.loop-at.invariant.seat.0, c.serve_unit.ensures.seat.1 ∙ c.loop-at.invariant.seat.1, c.serve_unit.ensures.seat.2 ∙ c.loop-at.invariant.seat.2, c.serve_unit.ensures.seat.3 ∙ c.loop-at.invariant.seat.3);
@@ -44,13 +40,20 @@ loop-at-preserved g c =
       asked = are_entered_on g.G.Gate.asked g.G.Gate.asked_on c.args.desk.now.seat c.loop-at.desk.seat c.args.desk.now.users.seat c.loop-at.desk.users.seat c.args.gate.now c.loop-at.gate c.serve_unit.new.gate _ _ c.loop-at.invariant.asked c.loop-at.invariant.seat c.loop-at.invariant.users c.serve_unit.ensures.asked;
       noted = noted_more (arc_value c.args.desk.now.shelf) (telling g.K.Link.told g.C.Timestamps.told g.C.Timestamps.stamped) g.N.Notes.noted g.N.Notes.noted_on c.args.notes.now c.loop-at.notes c.serve_unit.new.notes (stood (g.K.Link.state c.args.link.now) (g.C.Timestamps.coming c.args.clock.now) c.args.desk.now.seat c.args.desk.now.users.seat c.args.desk.now.attending) (stood (g.K.Link.state c.loop-at.link) (g.C.Timestamps.coming c.loop-at.clock) c.loop-at.desk.seat c.loop-at.desk.users.seat c.loop-at.desk.attending) (stood (g.K.Link.state c.serve_unit.new.link) (g.C.Timestamps.coming c.serve_unit.new.clock) c.serve_unit.new.desk.seat c.serve_unit.new.desk.users.seat c.serve_unit.new.desk.attending) c.loop-at.invariant.noted
           (noted_moved arc_value (telling g.K.Link.told g.C.Timestamps.told g.C.Timestamps.stamped) (stood (g.K.Link.state c.loop-at.link) (g.C.Timestamps.coming c.loop-at.clock) c.loop-at.desk.seat c.loop-at.desk.users.seat c.loop-at.desk.attending) (stood (g.K.Link.state c.serve_unit.new.link) (g.C.Timestamps.coming c.serve_unit.new.clock) c.serve_unit.new.desk.seat c.serve_unit.new.desk.users.seat c.serve_unit.new.desk.attending) (g.N.Notes.noted c.loop-at.notes c.serve_unit.new.notes) c.args.desk.now.shelf c.loop-at.desk.shelf c.loop-at.invariant.shelf c.serve_unit.ensures.noted);
-      timely = λ user k c1 b at s.
-          timely_more (language_for user (arc_value c.args.desk.now.shelf)) (telling g.K.Link.told g.C.Timestamps.told g.C.Timestamps.stamped) (starting k c1 b) (g.K.Link.state c.args.link.now) (g.K.Link.state c.loop-at.link) c.loop-at.desk.seat.seen c.loop-at.desk.users.seat.seen (c.loop-at.invariant.timely user k c1 b at s) _
-          (timely_moved arc_value (telling g.K.Link.told g.C.Timestamps.told g.C.Timestamps.stamped) (g.C.Timestamps.coming c.loop-at.clock) (g.K.Link.state c.loop-at.link) _ (in_hand c.loop-at.desk.attending false c.feed-fed.result.unit c.feed-fed.new.self (drop (c.loop-at.at + c.feed-fed.result.taken) c.args.piece.now)) c.args.desk.now.shelf c.loop-at.desk.shelf c.args.desk.now.seat c.loop-at.desk.seat c.args.desk.now.users.seat c.loop-at.desk.users.seat c.loop-at.invariant.shelf c.loop-at.invariant.seat c.loop-at.invariant.users (c.serve_unit.ensures.timely (drop (c.loop-at.at + c.feed-fed.result.taken) c.args.piece.now)) user k c1 b at
-          (stands_on (language_for user (arc_value c.args.desk.now.shelf)) g.K.Link.told g.C.Timestamps.told k c1 b (g.K.Link.state c.loop-at.link) (g.C.Timestamps.coming c.loop-at.clock) (now_of c.loop-at.desk.seat c.loop-at.desk.users.seat c.loop-at.desk.attending) c.loop-at.desk.reader c.args.piece.now _ c.loop-at.at c.feed-fed.result c.feed-fed.new.self (c.loop-at.invariant.stands user k c1 b at s) (take_rest c.args.piece.now c.loop-at.at) c.feed-fed.ensures.fed))
-          (went_to g.K.Link.told b (g.K.Link.state c.loop-at.link) (g.K.Link.state c.serve_unit.new.link) c.loop-at.desk.seat c.loop-at.desk.users.seat (c.loop-at.invariant.seat.0 ∙ at.0, c.loop-at.invariant.seat.1 ∙ at.1, c.loop-at.invariant.users.0 ∙ at.2, c.loop-at.invariant.users.1 ∙ at.3) c.serve_unit.ensures.link _ _ _ c.serve_unit.ensures.asked);
-      stands = λ user k c1 b at s. rw c.serve_unit.ensures.reader (goes_on_is (language_for user (arc_value c.args.desk.now.shelf)) g.K.Link.told g.C.Timestamps.told k c1 b (g.K.Link.state c.serve_unit.new.link) (g.C.Timestamps.coming c.serve_unit.new.clock) (now c.serve_unit.new.desk) c.feed-fed.new.self c.serve_unit.result _ on (goes user k c1 b (drop (c.loop-at.at + c.feed-fed.result.taken) c.args.piece.now) (c.loop-at.invariant.seat.0 ∙ at.0, c.loop-at.invariant.seat.1 ∙ at.1, c.loop-at.invariant.users.0 ∙ at.2, c.loop-at.invariant.users.1 ∙ at.3)
-          (stands_on (language_for user (arc_value c.args.desk.now.shelf)) g.K.Link.told g.C.Timestamps.told k c1 b (g.K.Link.state c.loop-at.link) (g.C.Timestamps.coming c.loop-at.clock) (now_of c.loop-at.desk.seat c.loop-at.desk.users.seat c.loop-at.desk.attending) c.loop-at.desk.reader c.args.piece.now _ c.loop-at.at c.feed-fed.result c.feed-fed.new.self (c.loop-at.invariant.stands user k c1 b at s) (take_rest c.args.piece.now c.loop-at.at) c.feed-fed.ensures.fed)));
+      goes = λ user k c1 b at s.
+          let l = language_for user (arc_value c.args.desk.now.shelf) in
+          let t = telling g.K.Link.told g.C.Timestamps.told g.C.Timestamps.stamped in
+          let old = desk_at (g.K.Link.state c.args.link.now) (g.C.Timestamps.coming c.args.clock.now) c.args.desk.now in
+          let mid = desk_at (g.K.Link.state c.loop-at.link) (g.C.Timestamps.coming c.loop-at.clock) c.loop-at.desk in
+          let new = desk_at (g.K.Link.state c.serve_unit.new.link) (g.C.Timestamps.coming c.serve_unit.new.clock) c.serve_unit.new.desk in
+          let rest = drop (c.loop-at.at + c.feed-fed.result.taken) c.args.piece.now in
+          let at_mid : IsAt b c.loop-at.desk.seat c.loop-at.desk.users.seat = (c.loop-at.invariant.seat.0 ∙ at.0, c.loop-at.invariant.seat.1 ∙ at.1, c.loop-at.invariant.users.0 ∙ at.2, c.loop-at.invariant.users.1 ∙ at.3) in
+          let so = c.loop-at.invariant.goes user k c1 b at s in
+          let fed = stands_on l g.K.Link.told g.C.Timestamps.told k c1 b (g.K.Link.state c.loop-at.link) (g.C.Timestamps.coming c.loop-at.clock) (now c.loop-at.desk) c.loop-at.desk.reader c.args.piece.now _ c.loop-at.at c.feed-fed.result c.feed-fed.new.self so.goes (take_rest c.args.piece.now c.loop-at.at) c.feed-fed.ensures.fed in
+          let next = moved_goes t mid new (in_hand c.loop-at.desk.attending false c.feed-fed.result.unit c.feed-fed.new.self rest) c.feed-fed.new.self rest c.serve_unit.result (arc_value c.args.desk.now.shelf) c.args.desk.now.seat c.args.desk.now.users.seat (ap arc_value c.loop-at.invariant.shelf) c.loop-at.invariant.seat c.loop-at.invariant.users (c.serve_unit.ensures.goes rest) user k c1 b at fed in
+          let on_then = goes_then t old mid new l (starting k c1 b) s.past.walk so.goes.past.walk c.serve_unit.result c.feed-fed.new.self rest so.ran_on so.timely next
+          (went_to g.K.Link.told b (g.K.Link.state c.loop-at.link) (g.K.Link.state c.serve_unit.new.link) c.loop-at.desk.seat c.loop-at.desk.users.seat at_mid c.serve_unit.ensures.link _ _ _ c.serve_unit.ensures.asked) in
+          subst (λ (y : Result Progress Stopped × Reader). GoesInTime t old new l (starting k c1 b) s.past.walk y.0 y.1 rest) (λ i. (on i, sym c.serve_unit.ensures.reader i)) on_then;
     }
 
 pub returns-in-Cut : goal.returns-in-Cut
@@ -68,16 +71,21 @@ returns-in-Cut g c =
       asked = are_entered_on g.G.Gate.asked g.G.Gate.asked_on c.args.desk.now.seat c.loop-at.desk.seat c.args.desk.now.users.seat c.loop-at.desk.users.seat c.args.gate.now c.loop-at.gate c.serve_unit.new.gate _ _ c.loop-at.invariant.asked c.loop-at.invariant.seat c.loop-at.invariant.users c.serve_unit.ensures.asked;
       noted = noted_more (arc_value c.args.desk.now.shelf) (telling g.K.Link.told g.C.Timestamps.told g.C.Timestamps.stamped) g.N.Notes.noted g.N.Notes.noted_on c.args.notes.now c.loop-at.notes c.serve_unit.new.notes (stood (g.K.Link.state c.args.link.now) (g.C.Timestamps.coming c.args.clock.now) c.args.desk.now.seat c.args.desk.now.users.seat c.args.desk.now.attending) (stood (g.K.Link.state c.loop-at.link) (g.C.Timestamps.coming c.loop-at.clock) c.loop-at.desk.seat c.loop-at.desk.users.seat c.loop-at.desk.attending) (stood (g.K.Link.state c.serve_unit.new.link) (g.C.Timestamps.coming c.serve_unit.new.clock) c.serve_unit.new.desk.seat c.serve_unit.new.desk.users.seat c.serve_unit.new.desk.attending) c.loop-at.invariant.noted
           (noted_moved arc_value (telling g.K.Link.told g.C.Timestamps.told g.C.Timestamps.stamped) (stood (g.K.Link.state c.loop-at.link) (g.C.Timestamps.coming c.loop-at.clock) c.loop-at.desk.seat c.loop-at.desk.users.seat c.loop-at.desk.attending) (stood (g.K.Link.state c.serve_unit.new.link) (g.C.Timestamps.coming c.serve_unit.new.clock) c.serve_unit.new.desk.seat c.serve_unit.new.desk.users.seat c.serve_unit.new.desk.attending) (g.N.Notes.noted c.loop-at.notes c.serve_unit.new.notes) c.args.desk.now.shelf c.loop-at.desk.shelf c.loop-at.invariant.shelf c.serve_unit.ensures.noted);
-      timely = λ user k c1 b at s.
-          timely_more (language_for user (arc_value c.args.desk.now.shelf)) (telling g.K.Link.told g.C.Timestamps.told g.C.Timestamps.stamped) (starting k c1 b) (g.K.Link.state c.args.link.now) (g.K.Link.state c.loop-at.link) c.loop-at.desk.seat.seen c.loop-at.desk.users.seat.seen (c.loop-at.invariant.timely user k c1 b at s) _
-          (timely_moved arc_value (telling g.K.Link.told g.C.Timestamps.told g.C.Timestamps.stamped) (g.C.Timestamps.coming c.loop-at.clock) (g.K.Link.state c.loop-at.link) _ (in_hand c.loop-at.desk.attending false c.feed-fed.result.unit c.feed-fed.new.self (drop (c.loop-at.at + c.feed-fed.result.taken) c.args.piece.now)) c.args.desk.now.shelf c.loop-at.desk.shelf c.args.desk.now.seat c.loop-at.desk.seat c.args.desk.now.users.seat c.loop-at.desk.users.seat c.loop-at.invariant.shelf c.loop-at.invariant.seat c.loop-at.invariant.users (c.serve_unit.ensures.timely (drop (c.loop-at.at + c.feed-fed.result.taken) c.args.piece.now)) user k c1 b at
-          (stands_on (language_for user (arc_value c.args.desk.now.shelf)) g.K.Link.told g.C.Timestamps.told k c1 b (g.K.Link.state c.loop-at.link) (g.C.Timestamps.coming c.loop-at.clock) (now_of c.loop-at.desk.seat c.loop-at.desk.users.seat c.loop-at.desk.attending) c.loop-at.desk.reader c.args.piece.now _ c.loop-at.at c.feed-fed.result c.feed-fed.new.self (c.loop-at.invariant.stands user k c1 b at s) (take_rest c.args.piece.now c.loop-at.at) c.feed-fed.ensures.fed))
-          (went_to g.K.Link.told b (g.K.Link.state c.loop-at.link) (g.K.Link.state c.serve_unit.new.link) c.loop-at.desk.seat c.loop-at.desk.users.seat (c.loop-at.invariant.seat.0 ∙ at.0, c.loop-at.invariant.seat.1 ∙ at.1, c.loop-at.invariant.users.0 ∙ at.2, c.loop-at.invariant.users.1 ∙ at.3) c.serve_unit.ensures.link _ _ _ c.serve_unit.ensures.asked);
       goes = λ user k c1 b at s.
-          let goes = subst (λ (y : Contents). (user : SessionUser) (k : LinkState) (c2 : List Moment) (b : Beginning) (ahead : List ℕ) → IsAt b c.loop-at.desk.seat c.loop-at.desk.users.seat → Stands (language_for user y) g.K.Link.told g.C.Timestamps.told k (g.K.Link.state c.loop-at.link) c2 (g.C.Timestamps.coming c.loop-at.clock) b (now_of c.loop-at.desk.seat c.loop-at.desk.users.seat c.loop-at.desk.attending) false c.feed-fed.result.unit c.feed-fed.new.self ahead
-          → Goes (language_for user y) g.K.Link.told g.C.Timestamps.told k (g.K.Link.state c.serve_unit.new.link) c2 (g.C.Timestamps.coming c.serve_unit.new.clock) b (now c.serve_unit.new.desk) c.serve_unit.result false c.feed-fed.new.self ahead) (ap arc_value c.loop-at.invariant.shelf) (λ user k c2 b ahead. c.serve_unit.ensures.goes ahead user k c2 b) in
-          goes_cut_is (language_for user (arc_value c.args.desk.now.shelf)) g.K.Link.told g.C.Timestamps.told k c1 b (g.K.Link.state c.serve_unit.new.link) (g.C.Timestamps.coming c.serve_unit.new.clock) (now c.serve_unit.new.desk) c.feed-fed.new.self c.serve_unit.result false _ cut (goes user k c1 b (drop (c.loop-at.at + c.feed-fed.result.taken) c.args.piece.now) (c.loop-at.invariant.seat.0 ∙ at.0, c.loop-at.invariant.seat.1 ∙ at.1, c.loop-at.invariant.users.0 ∙ at.2, c.loop-at.invariant.users.1 ∙ at.3)
-          (stands_on (language_for user (arc_value c.args.desk.now.shelf)) g.K.Link.told g.C.Timestamps.told k c1 b (g.K.Link.state c.loop-at.link) (g.C.Timestamps.coming c.loop-at.clock) (now_of c.loop-at.desk.seat c.loop-at.desk.users.seat c.loop-at.desk.attending) c.loop-at.desk.reader c.args.piece.now _ c.loop-at.at c.feed-fed.result c.feed-fed.new.self (c.loop-at.invariant.stands user k c1 b at s) (take_rest c.args.piece.now c.loop-at.at) c.feed-fed.ensures.fed));
+          let l = language_for user (arc_value c.args.desk.now.shelf) in
+          let t = telling g.K.Link.told g.C.Timestamps.told g.C.Timestamps.stamped in
+          let old = desk_at (g.K.Link.state c.args.link.now) (g.C.Timestamps.coming c.args.clock.now) c.args.desk.now in
+          let mid = desk_at (g.K.Link.state c.loop-at.link) (g.C.Timestamps.coming c.loop-at.clock) c.loop-at.desk in
+          let new = desk_at (g.K.Link.state c.serve_unit.new.link) (g.C.Timestamps.coming c.serve_unit.new.clock) c.serve_unit.new.desk in
+          let rest = drop (c.loop-at.at + c.feed-fed.result.taken) c.args.piece.now in
+          let at_mid : IsAt b c.loop-at.desk.seat c.loop-at.desk.users.seat = (c.loop-at.invariant.seat.0 ∙ at.0, c.loop-at.invariant.seat.1 ∙ at.1, c.loop-at.invariant.users.0 ∙ at.2, c.loop-at.invariant.users.1 ∙ at.3) in
+          let so = c.loop-at.invariant.goes user k c1 b at s in
+          let fed = stands_on l g.K.Link.told g.C.Timestamps.told k c1 b (g.K.Link.state c.loop-at.link) (g.C.Timestamps.coming c.loop-at.clock) (now c.loop-at.desk) c.loop-at.desk.reader c.args.piece.now _ c.loop-at.at c.feed-fed.result c.feed-fed.new.self so.goes (take_rest c.args.piece.now c.loop-at.at) c.feed-fed.ensures.fed in
+          let next = moved_goes t mid new (in_hand c.loop-at.desk.attending false c.feed-fed.result.unit c.feed-fed.new.self rest) c.feed-fed.new.self rest c.serve_unit.result (arc_value c.args.desk.now.shelf) c.args.desk.now.seat c.args.desk.now.users.seat (ap arc_value c.loop-at.invariant.shelf) c.loop-at.invariant.seat c.loop-at.invariant.users (c.serve_unit.ensures.goes rest) user k c1 b at fed in
+          let on_then = goes_then t old mid new l (starting k c1 b) s.past.walk so.goes.past.walk c.serve_unit.result c.feed-fed.new.self rest so.ran_on so.timely next
+          (went_to g.K.Link.told b (g.K.Link.state c.loop-at.link) (g.K.Link.state c.serve_unit.new.link) c.loop-at.desk.seat c.loop-at.desk.users.seat at_mid c.serve_unit.ensures.link _ _ _ c.serve_unit.ensures.asked) in
+          let cut_then = subst (λ (y : Result Progress Stopped). GoesInTime t old new l (starting k c1 b) s.past.walk y c.feed-fed.new.self rest) cut on_then in
+          record { goes = cut_then.goes; ran_on = cut_then.ran_on; timely = cut_then.timely };
     }
 
 pub returns-in_err-serve_unit : goal.returns-in_err-serve_unit
@@ -94,14 +102,19 @@ returns-in_err-serve_unit g c =
       asked = are_entered_on g.G.Gate.asked g.G.Gate.asked_on c.args.desk.now.seat c.loop-at.desk.seat c.args.desk.now.users.seat c.loop-at.desk.users.seat c.args.gate.now c.loop-at.gate c.serve_unit.new.gate _ _ c.loop-at.invariant.asked c.loop-at.invariant.seat c.loop-at.invariant.users c.serve_unit.ensures.asked;
       noted = noted_more (arc_value c.args.desk.now.shelf) (telling g.K.Link.told g.C.Timestamps.told g.C.Timestamps.stamped) g.N.Notes.noted g.N.Notes.noted_on c.args.notes.now c.loop-at.notes c.serve_unit.new.notes (stood (g.K.Link.state c.args.link.now) (g.C.Timestamps.coming c.args.clock.now) c.args.desk.now.seat c.args.desk.now.users.seat c.args.desk.now.attending) (stood (g.K.Link.state c.loop-at.link) (g.C.Timestamps.coming c.loop-at.clock) c.loop-at.desk.seat c.loop-at.desk.users.seat c.loop-at.desk.attending) (stood (g.K.Link.state c.serve_unit.new.link) (g.C.Timestamps.coming c.serve_unit.new.clock) c.serve_unit.new.desk.seat c.serve_unit.new.desk.users.seat c.serve_unit.new.desk.attending) c.loop-at.invariant.noted
           (noted_moved arc_value (telling g.K.Link.told g.C.Timestamps.told g.C.Timestamps.stamped) (stood (g.K.Link.state c.loop-at.link) (g.C.Timestamps.coming c.loop-at.clock) c.loop-at.desk.seat c.loop-at.desk.users.seat c.loop-at.desk.attending) (stood (g.K.Link.state c.serve_unit.new.link) (g.C.Timestamps.coming c.serve_unit.new.clock) c.serve_unit.new.desk.seat c.serve_unit.new.desk.users.seat c.serve_unit.new.desk.attending) (g.N.Notes.noted c.loop-at.notes c.serve_unit.new.notes) c.args.desk.now.shelf c.loop-at.desk.shelf c.loop-at.invariant.shelf c.serve_unit.ensures.noted);
-      timely = λ user k c1 b at s.
-          timely_more (language_for user (arc_value c.args.desk.now.shelf)) (telling g.K.Link.told g.C.Timestamps.told g.C.Timestamps.stamped) (starting k c1 b) (g.K.Link.state c.args.link.now) (g.K.Link.state c.loop-at.link) c.loop-at.desk.seat.seen c.loop-at.desk.users.seat.seen (c.loop-at.invariant.timely user k c1 b at s) _
-          (timely_moved arc_value (telling g.K.Link.told g.C.Timestamps.told g.C.Timestamps.stamped) (g.C.Timestamps.coming c.loop-at.clock) (g.K.Link.state c.loop-at.link) _ (in_hand c.loop-at.desk.attending false c.feed-fed.result.unit c.feed-fed.new.self (drop (c.loop-at.at + c.feed-fed.result.taken) c.args.piece.now)) c.args.desk.now.shelf c.loop-at.desk.shelf c.args.desk.now.seat c.loop-at.desk.seat c.args.desk.now.users.seat c.loop-at.desk.users.seat c.loop-at.invariant.shelf c.loop-at.invariant.seat c.loop-at.invariant.users (c.serve_unit.ensures.timely (drop (c.loop-at.at + c.feed-fed.result.taken) c.args.piece.now)) user k c1 b at
-          (stands_on (language_for user (arc_value c.args.desk.now.shelf)) g.K.Link.told g.C.Timestamps.told k c1 b (g.K.Link.state c.loop-at.link) (g.C.Timestamps.coming c.loop-at.clock) (now_of c.loop-at.desk.seat c.loop-at.desk.users.seat c.loop-at.desk.attending) c.loop-at.desk.reader c.args.piece.now _ c.loop-at.at c.feed-fed.result c.feed-fed.new.self (c.loop-at.invariant.stands user k c1 b at s) (take_rest c.args.piece.now c.loop-at.at) c.feed-fed.ensures.fed))
-          (went_to g.K.Link.told b (g.K.Link.state c.loop-at.link) (g.K.Link.state c.serve_unit.new.link) c.loop-at.desk.seat c.loop-at.desk.users.seat (c.loop-at.invariant.seat.0 ∙ at.0, c.loop-at.invariant.seat.1 ∙ at.1, c.loop-at.invariant.users.0 ∙ at.2, c.loop-at.invariant.users.1 ∙ at.3) c.serve_unit.ensures.link _ _ _ c.serve_unit.ensures.asked);
       goes = λ user k c1 b at s.
-          let goes = subst (λ (y : Contents). (user : SessionUser) (k : LinkState) (c2 : List Moment) (b : Beginning) (ahead : List ℕ) → IsAt b c.loop-at.desk.seat c.loop-at.desk.users.seat → Stands (language_for user y) g.K.Link.told g.C.Timestamps.told k (g.K.Link.state c.loop-at.link) c2 (g.C.Timestamps.coming c.loop-at.clock) b (now_of c.loop-at.desk.seat c.loop-at.desk.users.seat c.loop-at.desk.attending) false c.feed-fed.result.unit c.feed-fed.new.self ahead
-          → Goes (language_for user y) g.K.Link.told g.C.Timestamps.told k (g.K.Link.state c.serve_unit.new.link) c2 (g.C.Timestamps.coming c.serve_unit.new.clock) b (now c.serve_unit.new.desk) c.serve_unit.result false c.feed-fed.new.self ahead) (ap arc_value c.loop-at.invariant.shelf) (λ user k c2 b ahead. c.serve_unit.ensures.goes ahead user k c2 b) in
-          by_stop (λ (r : Result Progress Stopped). Goes (language_for user (arc_value c.args.desk.now.shelf)) g.K.Link.told g.C.Timestamps.told k (g.K.Link.state c.serve_unit.new.link) c1 (g.C.Timestamps.coming c.serve_unit.new.clock) b (now c.serve_unit.new.desk) r false c.serve_unit.new.desk.reader []) c.from_residual.result c.from_residual.ensures.0 (goes_stopped_is (language_for user (arc_value c.args.desk.now.shelf)) g.K.Link.told g.C.Timestamps.told k c1 b (g.K.Link.state c.serve_unit.new.link) (g.C.Timestamps.coming c.serve_unit.new.clock) (now c.serve_unit.new.desk) c.feed-fed.new.self c.serve_unit.result the_stop false _ c.in_err-serve_unit.was (goes user k c1 b (drop (c.loop-at.at + c.feed-fed.result.taken) c.args.piece.now) (c.loop-at.invariant.seat.0 ∙ at.0, c.loop-at.invariant.seat.1 ∙ at.1, c.loop-at.invariant.users.0 ∙ at.2, c.loop-at.invariant.users.1 ∙ at.3)
-          (stands_on (language_for user (arc_value c.args.desk.now.shelf)) g.K.Link.told g.C.Timestamps.told k c1 b (g.K.Link.state c.loop-at.link) (g.C.Timestamps.coming c.loop-at.clock) (now_of c.loop-at.desk.seat c.loop-at.desk.users.seat c.loop-at.desk.attending) c.loop-at.desk.reader c.args.piece.now _ c.loop-at.at c.feed-fed.result c.feed-fed.new.self (c.loop-at.invariant.stands user k c1 b at s) (take_rest c.args.piece.now c.loop-at.at) c.feed-fed.ensures.fed)));
+          let l = language_for user (arc_value c.args.desk.now.shelf) in
+          let t = telling g.K.Link.told g.C.Timestamps.told g.C.Timestamps.stamped in
+          let old = desk_at (g.K.Link.state c.args.link.now) (g.C.Timestamps.coming c.args.clock.now) c.args.desk.now in
+          let mid = desk_at (g.K.Link.state c.loop-at.link) (g.C.Timestamps.coming c.loop-at.clock) c.loop-at.desk in
+          let new = desk_at (g.K.Link.state c.serve_unit.new.link) (g.C.Timestamps.coming c.serve_unit.new.clock) c.serve_unit.new.desk in
+          let rest = drop (c.loop-at.at + c.feed-fed.result.taken) c.args.piece.now in
+          let at_mid : IsAt b c.loop-at.desk.seat c.loop-at.desk.users.seat = (c.loop-at.invariant.seat.0 ∙ at.0, c.loop-at.invariant.seat.1 ∙ at.1, c.loop-at.invariant.users.0 ∙ at.2, c.loop-at.invariant.users.1 ∙ at.3) in
+          let so = c.loop-at.invariant.goes user k c1 b at s in
+          let fed = stands_on l g.K.Link.told g.C.Timestamps.told k c1 b (g.K.Link.state c.loop-at.link) (g.C.Timestamps.coming c.loop-at.clock) (now c.loop-at.desk) c.loop-at.desk.reader c.args.piece.now _ c.loop-at.at c.feed-fed.result c.feed-fed.new.self so.goes (take_rest c.args.piece.now c.loop-at.at) c.feed-fed.ensures.fed in
+          let next = moved_goes t mid new (in_hand c.loop-at.desk.attending false c.feed-fed.result.unit c.feed-fed.new.self rest) c.feed-fed.new.self rest c.serve_unit.result (arc_value c.args.desk.now.shelf) c.args.desk.now.seat c.args.desk.now.users.seat (ap arc_value c.loop-at.invariant.shelf) c.loop-at.invariant.seat c.loop-at.invariant.users (c.serve_unit.ensures.goes rest) user k c1 b at fed in
+          let on_then = goes_then t old mid new l (starting k c1 b) s.past.walk so.goes.past.walk c.serve_unit.result c.feed-fed.new.self rest so.ran_on so.timely next
+          (went_to g.K.Link.told b (g.K.Link.state c.loop-at.link) (g.K.Link.state c.serve_unit.new.link) c.loop-at.desk.seat c.loop-at.desk.users.seat at_mid c.serve_unit.ensures.link _ _ _ c.serve_unit.ensures.asked) in
+          let stopped_then = subst (λ (y : Result Progress Stopped). GoesInTime t old new l (starting k c1 b) s.past.walk y c.feed-fed.new.self rest) c.in_err-serve_unit.was on_then in
+          by_stop (λ (r : Result Progress Stopped). GoesInTime t old new l (starting k c1 b) s.past.walk r c.serve_unit.new.desk.reader []) c.from_residual.result c.from_residual.ensures.0 (record { goes = stopped_then.goes; ran_on = stopped_then.ran_on; timely = stopped_then.timely });
     }

@@ -1,27 +1,25 @@
-use Rattle.std.specs.Prelude.{IsErr, IsOk, is_some}
+use Rattle.std.specs.Prelude.{IsErr, IsOk}
 use Rattle.std.proofs.Common.{◌≡◌, false, Result, Ok, Err, refl, sym, ap, ◌∙◌, subst}
 use Rattle.std.specs.Arc.{arc_value}
 use Rattle.dxc_causes.specs.Stops.{RoseOnlyFor}
 use Rattle.dxc_outside.specs.declared.stopped.Stopped.{Stopped}
 use Rattle.dxc_outside.specs.Stops.{the_stop}
-use Rattle.shelf_file.specs.Contents.{Contents}
-use Rattle.tl1_text.specs.declared.reader.UnitKind.TheVariants.{More}
 use Rattle.craft_session.specs.declared.end.Progress.{Progress}
 use Rattle.craft_session.specs.declared.end.Progress.TheVariants.{On, Cut}
 use Rattle.craft_session.specs.declared.users.UserDesk.{UserDesk}
 use Rattle.craft_session.specs.Desks.{now, input_of, IsAnswered}
 use Rattle.craft_session.specs.Meanings.{language_for}
 use Rattle.craft_session.specs.Noted.{stood}
-use Rattle.craft_session.specs.Sessions.{Goes, IsAt, Stands}
-use Rattle.craft_session.specs.Stamps.{stamp_at}
-use Rattle.craft_session.specs.Timely.{IsTimelyFrom, in_hand, reached, starting, telling}
+use Rattle.craft_session.specs.Gathered.{GoesInTime, desk_at, to_report}
+use Rattle.craft_session.specs.Sessions.{IsAt}
+use Rattle.craft_session.specs.Timely.{starting, telling}
 use Rattle.craft_session.proofs.Done.{table_turned, users_turned}
-use Rattle.craft_session.proofs.Answering.{answered, answered_timely, input_ended}
+use Rattle.craft_session.proofs.Answering.{answered, input_ended}
 use Rattle.craft_session.proofs.Ends.{by_stop, is_stop, no_stop, stayed_ok}
 use Rattle.craft_session.proofs.Gated.{are_entered_beside}
 use Rattle.craft_session.proofs.Noted.{beside_reports, noted_beside}
 use Rattle.craft_session.proofs.SessionSteps.{writes_more}
-use Rattle.craft_session.proofs.Timely.{looked_to, timely_more}
+use Rattle.craft_session.proofs.Timely.{goes_then, looked_to, moved_goes}
 use Rattle.craft_session.proofs.unit.attend.Goals as goal
 
 pub returns-in-On : goal.returns-in-On
@@ -38,23 +36,18 @@ returns-in-On g c =
       hung_up = next.hung_up ∙ first.hung_up;
       goes = λ ahead user k c1 b at s.
           let desk = c.args.desk.now in
-          let ended = input_ended (language_for user (arc_value desk.shelf)) g.K.Link.told g.C.Timestamps.told k (g.K.Link.state c.args.link.now) c1 (g.C.Timestamps.coming c.args.clock.now) b (now desk) desk.reader ahead c.args.kind s c.requires.ended in
-          let x = answered (arc_value desk.shelf) user g.K.Link.told g.C.Timestamps.told k (g.K.Link.state c.args.link.now) c1 (g.C.Timestamps.coming c.args.clock.now) b (now desk) c.args.kind desk.reader ahead s desk.seat desk.users.seat at (g.K.Link.state c.answer.new.link) (g.C.Timestamps.coming c.answer.new.clock) (now c.answer.new.desk) refl (users_turned b desk.seat c.answer.new.desk.seat desk.users.seat c.answer.new.desk.users.seat at (now desk) (now c.answer.new.desk) refl refl refl refl refl first.users_in_turn, table_turned b desk.seat c.answer.new.desk.seat desk.users.seat c.answer.new.desk.users.seat at (now desk) (now c.answer.new.desk) refl refl refl refl refl first.in_turn) (input_of c.args.kind desk.reader) ended (Ok On)
-          (subst (λ (y : Result Progress Stopped). IsAnswered (arc_value desk.shelf) g.K.Link.told g.C.Timestamps.told (g.K.Link.state c.args.link.now) (g.K.Link.state c.answer.new.link) (g.C.Timestamps.coming c.args.clock.now) (g.C.Timestamps.coming c.answer.new.clock) (input_of c.args.kind desk.reader) desk.seat desk.users.seat (now desk) (now c.answer.new.desk) y) on c.answer.ensures.answered) in
-          let goes = subst (λ (y : Contents). Stands (language_for user y) g.K.Link.told g.C.Timestamps.told k (g.K.Link.state c.answer.new.link) c1 (g.C.Timestamps.coming c.answer.new.clock) b (now c.answer.new.desk) (is_some c.answer.new.desk.attending.watch) More desk.reader ahead → Goes (language_for user y) g.K.Link.told g.C.Timestamps.told k (g.K.Link.state c.report.new.link) c1 (g.C.Timestamps.coming c.report.new.clock) b (now c.report.new.desk) (Ok c.report.result) false desk.reader ahead) (ap arc_value c.answer.ensures.shelf)
-          (c.report.ensures.goes desk.reader ahead user k c1 b (c.answer.ensures.seat.0 ∙ at.0, c.answer.ensures.seat.1 ∙ at.1, c.answer.ensures.users.0 ∙ at.2, c.answer.ensures.users.1 ∙ at.3)) in
-          goes x;
-      timely = λ ahead user k c1 b at s.
-          let desk = c.args.desk.now in
           let l = language_for user (arc_value desk.shelf) in
-          let t = (telling g.K.Link.told g.C.Timestamps.told g.C.Timestamps.stamped) in
+          let t = telling g.K.Link.told g.C.Timestamps.told g.C.Timestamps.stamped in
           let ended = input_ended l g.K.Link.told g.C.Timestamps.told k (g.K.Link.state c.args.link.now) c1 (g.C.Timestamps.coming c.args.clock.now) b (now desk) desk.reader ahead c.args.kind s c.requires.ended in
           let was = subst (λ (y : Result Progress Stopped). IsAnswered (arc_value desk.shelf) g.K.Link.told g.C.Timestamps.told (g.K.Link.state c.args.link.now) (g.K.Link.state c.answer.new.link) (g.C.Timestamps.coming c.args.clock.now) (g.C.Timestamps.coming c.answer.new.clock) (input_of c.args.kind desk.reader) desk.seat desk.users.seat (now desk) (now c.answer.new.desk) y) on first.answered in
           let at2 : IsAt b c.answer.new.desk.seat c.answer.new.desk.users.seat = (first.seat.0 ∙ at.0, first.seat.1 ∙ at.1, first.users.0 ∙ at.2, first.users.1 ∙ at.3) in
-          let x = answered (arc_value desk.shelf) user g.K.Link.told g.C.Timestamps.told k (g.K.Link.state c.args.link.now) c1 (g.C.Timestamps.coming c.args.clock.now) b (now desk) c.args.kind desk.reader ahead s desk.seat desk.users.seat at (g.K.Link.state c.answer.new.link) (g.C.Timestamps.coming c.answer.new.clock) (now c.answer.new.desk) refl (users_turned b desk.seat c.answer.new.desk.seat desk.users.seat c.answer.new.desk.users.seat at (now desk) (now c.answer.new.desk) refl refl refl refl refl first.users_in_turn, table_turned b desk.seat c.answer.new.desk.seat desk.users.seat c.answer.new.desk.users.seat at (now desk) (now c.answer.new.desk) refl refl refl refl refl first.in_turn) (input_of c.args.kind desk.reader) ended (Ok On) was in
-          let said = answered_timely (arc_value desk.shelf) user g.K.Link.told g.C.Timestamps.told k (g.K.Link.state c.args.link.now) c1 (g.C.Timestamps.coming c.args.clock.now) b (now desk) c.args.kind desk.reader ahead s desk.seat desk.users.seat at (g.K.Link.state c.answer.new.link) (g.C.Timestamps.coming c.answer.new.clock) (now c.answer.new.desk) refl (users_turned b desk.seat c.answer.new.desk.seat desk.users.seat c.answer.new.desk.users.seat at (now desk) (now c.answer.new.desk) refl refl refl refl refl first.users_in_turn, table_turned b desk.seat c.answer.new.desk.seat desk.users.seat c.answer.new.desk.users.seat at (now desk) (now c.answer.new.desk) refl refl refl refl refl first.in_turn) (input_of c.args.kind desk.reader) ended g.C.Timestamps.stamped c.answer.new.desk.seat c.answer.new.desk.users.seat at2 refl refl refl refl (Ok On) was (λ _. first.stamped (subst (λ (r : Result Progress Stopped). IsOk r) (sym on) refl)) in
-          let told = subst (λ (y : Contents). IsTimelyFrom y t (stamp_at (g.C.Timestamps.coming c.answer.new.clock) (g.K.Link.state c.answer.new.link) c.answer.new.desk.seat c.answer.new.desk.users.seat) (in_hand c.answer.new.desk.attending (is_some c.answer.new.desk.attending.watch) More desk.reader ahead) (reached (g.K.Link.state c.report.new.link).written c.report.new.desk.seat.seen c.report.new.desk.users.seat.seen)) (ap arc_value first.shelf) (next.timely desk.reader ahead) in
-          timely_more l t (starting k c1 b) (g.K.Link.state c.args.link.now) (g.K.Link.state c.answer.new.link) c.answer.new.desk.seat.seen c.answer.new.desk.users.seat.seen said _ (told user k c1 b at2 x)
+          let so = answered (arc_value desk.shelf) user g.K.Link.told g.C.Timestamps.told k (g.K.Link.state c.args.link.now) c1 (g.C.Timestamps.coming c.args.clock.now) b (now desk) c.args.kind desk.reader ahead s desk.seat desk.users.seat at (g.K.Link.state c.answer.new.link) (g.C.Timestamps.coming c.answer.new.clock) (now c.answer.new.desk) refl (users_turned b desk.seat c.answer.new.desk.seat desk.users.seat c.answer.new.desk.users.seat at (now desk) (now c.answer.new.desk) refl refl refl refl refl first.users_in_turn, table_turned b desk.seat c.answer.new.desk.seat desk.users.seat c.answer.new.desk.users.seat at (now desk) (now c.answer.new.desk) refl refl refl refl refl first.in_turn) (input_of c.args.kind desk.reader) ended
+          g.C.Timestamps.stamped c.answer.new.desk.seat c.answer.new.desk.users.seat (first.seat.0 ∙ at.0, first.seat.1 ∙ at.1, first.users.0 ∙ at.2, first.users.1 ∙ at.3) refl refl refl refl (Ok On) was (λ _. first.stamped (subst (λ (r : Result Progress Stopped). IsOk r) (sym on) refl)) in
+          let old = desk_at (g.K.Link.state c.args.link.now) (g.C.Timestamps.coming c.args.clock.now) desk in
+          let mid = desk_at (g.K.Link.state c.answer.new.link) (g.C.Timestamps.coming c.answer.new.clock) c.answer.new.desk in
+          let new = desk_at (g.K.Link.state c.report.new.link) (g.C.Timestamps.coming c.report.new.clock) c.report.new.desk in
+          goes_then t old mid new l (starting k c1 b) s.past.walk so.goes.past.walk (Ok c.report.result) desk.reader ahead so.ran_on so.timely
+          (moved_goes t mid new (to_report c.answer.new.desk.attending desk.reader ahead) desk.reader ahead (Ok c.report.result) (arc_value desk.shelf) c.answer.new.desk.seat c.answer.new.desk.users.seat (ap arc_value first.shelf) (refl, refl, refl, refl) (refl, refl, refl, refl) (next.goes desk.reader ahead) user k c1 b at2 so.goes)
           (looked_to g.K.Link.told b (g.K.Link.state c.answer.new.link) (g.K.Link.state c.report.new.link) c.answer.new.desk.seat c.answer.new.desk.users.seat at2 next.link _ _ (ap (λ (u : UserDesk g.row.U.Denot). u.seat.seen) next.users) next.entered);
       stopped = no_stop c.report.result _ _ (stayed_ok On c.answer.result _ _ on first.stopped);
       asked = are_entered_beside g.G.Gate.asked g.G.Gate.asked_on g.G.Gate.unasked c.args.desk.now.seat c.answer.new.desk.seat c.args.desk.now.users.seat c.args.gate.now c.answer.new.gate _ _ _ _ first.asked refl first.seat (ap (λ (u : UserDesk g.row.U.Denot). u.seat.seen) next.users) next.entered;
@@ -74,15 +67,14 @@ returns-in_err-answer g c =
       link = first.link;
       hung_up = first.hung_up;
       goes = λ ahead user k c1 b at stands.
-          let s = language_for user (arc_value desk.shelf) in
-          let ended = input_ended s g.K.Link.told g.C.Timestamps.told k (g.K.Link.state c.args.link.now) c1 (g.C.Timestamps.coming c.args.clock.now) b (now desk) desk.reader ahead c.args.kind stands c.requires.ended in
-          by_stop (λ (r : Result Progress Stopped). Goes s g.K.Link.told g.C.Timestamps.told k (g.K.Link.state c.answer.new.link) c1 (g.C.Timestamps.coming c.answer.new.clock) b (now c.answer.new.desk) r false desk.reader ahead) c.from_residual.result c.from_residual.ensures.0
-          (answered (arc_value desk.shelf) user g.K.Link.told g.C.Timestamps.told k (g.K.Link.state c.args.link.now) c1 (g.C.Timestamps.coming c.args.clock.now) b (now desk) c.args.kind desk.reader ahead stands desk.seat desk.users.seat at (g.K.Link.state c.answer.new.link) (g.C.Timestamps.coming c.answer.new.clock) (now c.answer.new.desk) refl (users_turned b desk.seat c.answer.new.desk.seat desk.users.seat c.answer.new.desk.users.seat at (now desk) (now c.answer.new.desk) refl refl refl refl refl first.users_in_turn, table_turned b desk.seat c.answer.new.desk.seat desk.users.seat c.answer.new.desk.users.seat at (now desk) (now c.answer.new.desk) refl refl refl refl refl first.in_turn) (input_of c.args.kind desk.reader) ended (Err the_stop)
-          (subst (λ (y : Result Progress Stopped). IsAnswered (arc_value desk.shelf) g.K.Link.told g.C.Timestamps.told (g.K.Link.state c.args.link.now) (g.K.Link.state c.answer.new.link) (g.C.Timestamps.coming c.args.clock.now) (g.C.Timestamps.coming c.answer.new.clock) (input_of c.args.kind desk.reader) desk.seat desk.users.seat (now desk) (now c.answer.new.desk) y) c.in_err-answer.was first.answered));
-      timely = λ ahead user k c1 b at stands.
-          let ended = input_ended (language_for user (arc_value desk.shelf)) g.K.Link.told g.C.Timestamps.told k (g.K.Link.state c.args.link.now) c1 (g.C.Timestamps.coming c.args.clock.now) b (now desk) desk.reader ahead c.args.kind stands c.requires.ended in
-          answered_timely (arc_value desk.shelf) user g.K.Link.told g.C.Timestamps.told k (g.K.Link.state c.args.link.now) c1 (g.C.Timestamps.coming c.args.clock.now) b (now desk) c.args.kind desk.reader ahead stands desk.seat desk.users.seat at (g.K.Link.state c.answer.new.link) (g.C.Timestamps.coming c.answer.new.clock) (now c.answer.new.desk) refl (users_turned b desk.seat c.answer.new.desk.seat desk.users.seat c.answer.new.desk.users.seat at (now desk) (now c.answer.new.desk) refl refl refl refl refl first.users_in_turn, table_turned b desk.seat c.answer.new.desk.seat desk.users.seat c.answer.new.desk.users.seat at (now desk) (now c.answer.new.desk) refl refl refl refl refl first.in_turn) (input_of c.args.kind desk.reader) ended g.C.Timestamps.stamped c.answer.new.desk.seat c.answer.new.desk.users.seat
-          (first.seat.0 ∙ at.0, first.seat.1 ∙ at.1, first.users.0 ∙ at.2, first.users.1 ∙ at.3) refl refl refl refl c.answer.result first.answered first.stamped;
+          let l = language_for user (arc_value desk.shelf) in
+          let old = desk_at (g.K.Link.state c.args.link.now) (g.C.Timestamps.coming c.args.clock.now) desk in
+          let new = desk_at (g.K.Link.state c.answer.new.link) (g.C.Timestamps.coming c.answer.new.clock) c.answer.new.desk in
+          let ended = input_ended l g.K.Link.told g.C.Timestamps.told k (g.K.Link.state c.args.link.now) c1 (g.C.Timestamps.coming c.args.clock.now) b (now desk) desk.reader ahead c.args.kind stands c.requires.ended in
+          let so = answered (arc_value desk.shelf) user g.K.Link.told g.C.Timestamps.told k (g.K.Link.state c.args.link.now) c1 (g.C.Timestamps.coming c.args.clock.now) b (now desk) c.args.kind desk.reader ahead stands desk.seat desk.users.seat at (g.K.Link.state c.answer.new.link) (g.C.Timestamps.coming c.answer.new.clock) (now c.answer.new.desk) refl (users_turned b desk.seat c.answer.new.desk.seat desk.users.seat c.answer.new.desk.users.seat at (now desk) (now c.answer.new.desk) refl refl refl refl refl first.users_in_turn, table_turned b desk.seat c.answer.new.desk.seat desk.users.seat c.answer.new.desk.users.seat at (now desk) (now c.answer.new.desk) refl refl refl refl refl first.in_turn) (input_of c.args.kind desk.reader) ended
+          g.C.Timestamps.stamped c.answer.new.desk.seat c.answer.new.desk.users.seat (first.seat.0 ∙ at.0, first.seat.1 ∙ at.1, first.users.0 ∙ at.2, first.users.1 ∙ at.3) refl refl refl refl (Err the_stop) (subst (λ (y : Result Progress Stopped). IsAnswered (arc_value desk.shelf) g.K.Link.told g.C.Timestamps.told (g.K.Link.state c.args.link.now) (g.K.Link.state c.answer.new.link) (g.C.Timestamps.coming c.args.clock.now) (g.C.Timestamps.coming c.answer.new.clock) (input_of c.args.kind desk.reader) desk.seat desk.users.seat (now desk) (now c.answer.new.desk) y) c.in_err-answer.was first.answered) (λ ok. absurd cc) in
+          by_stop (λ (r : Result Progress Stopped). GoesInTime (telling g.K.Link.told g.C.Timestamps.told g.C.Timestamps.stamped) old new l (starting k c1 b) stands.past.walk r desk.reader ahead) c.from_residual.result c.from_residual.ensures.0
+          (record { goes = so.goes; ran_on = so.ran_on; timely = so.timely });
       stopped = subst (λ (r : Result Progress Stopped). RoseOnlyFor (g.G.Gate.stops c.args.gate.now) (g.G.Gate.stops c.answer.new.gate) (IsErr r)) (c.in_err-answer.was ∙ sym (is_stop c.from_residual.result c.from_residual.ensures.0)) first.stopped;
       asked = first.asked;
       noted = first.noted;
@@ -101,14 +93,11 @@ returns-in-Cut g c =
       link = first.link;
       hung_up = first.hung_up;
       goes = λ ahead user k c1 b at stands.
-          let s = language_for user (arc_value desk.shelf) in
-          let ended = input_ended s g.K.Link.told g.C.Timestamps.told k (g.K.Link.state c.args.link.now) c1 (g.C.Timestamps.coming c.args.clock.now) b (now desk) desk.reader ahead c.args.kind stands c.requires.ended in
-          answered (arc_value desk.shelf) user g.K.Link.told g.C.Timestamps.told k (g.K.Link.state c.args.link.now) c1 (g.C.Timestamps.coming c.args.clock.now) b (now desk) c.args.kind desk.reader ahead stands desk.seat desk.users.seat at (g.K.Link.state c.answer.new.link) (g.C.Timestamps.coming c.answer.new.clock) (now c.answer.new.desk) refl (users_turned b desk.seat c.answer.new.desk.seat desk.users.seat c.answer.new.desk.users.seat at (now desk) (now c.answer.new.desk) refl refl refl refl refl first.users_in_turn, table_turned b desk.seat c.answer.new.desk.seat desk.users.seat c.answer.new.desk.users.seat at (now desk) (now c.answer.new.desk) refl refl refl refl refl first.in_turn) (input_of c.args.kind desk.reader) ended (Ok Cut)
-          (subst (λ (y : Result Progress Stopped). IsAnswered (arc_value desk.shelf) g.K.Link.told g.C.Timestamps.told (g.K.Link.state c.args.link.now) (g.K.Link.state c.answer.new.link) (g.C.Timestamps.coming c.args.clock.now) (g.C.Timestamps.coming c.answer.new.clock) (input_of c.args.kind desk.reader) desk.seat desk.users.seat (now desk) (now c.answer.new.desk) y) cut first.answered);
-      timely = λ ahead user k c1 b at stands.
-          let ended = input_ended (language_for user (arc_value desk.shelf)) g.K.Link.told g.C.Timestamps.told k (g.K.Link.state c.args.link.now) c1 (g.C.Timestamps.coming c.args.clock.now) b (now desk) desk.reader ahead c.args.kind stands c.requires.ended in
-          answered_timely (arc_value desk.shelf) user g.K.Link.told g.C.Timestamps.told k (g.K.Link.state c.args.link.now) c1 (g.C.Timestamps.coming c.args.clock.now) b (now desk) c.args.kind desk.reader ahead stands desk.seat desk.users.seat at (g.K.Link.state c.answer.new.link) (g.C.Timestamps.coming c.answer.new.clock) (now c.answer.new.desk) refl (users_turned b desk.seat c.answer.new.desk.seat desk.users.seat c.answer.new.desk.users.seat at (now desk) (now c.answer.new.desk) refl refl refl refl refl first.users_in_turn, table_turned b desk.seat c.answer.new.desk.seat desk.users.seat c.answer.new.desk.users.seat at (now desk) (now c.answer.new.desk) refl refl refl refl refl first.in_turn) (input_of c.args.kind desk.reader) ended g.C.Timestamps.stamped c.answer.new.desk.seat c.answer.new.desk.users.seat
-          (first.seat.0 ∙ at.0, first.seat.1 ∙ at.1, first.users.0 ∙ at.2, first.users.1 ∙ at.3) refl refl refl refl c.answer.result first.answered first.stamped;
+          let l = language_for user (arc_value desk.shelf) in
+          let ended = input_ended l g.K.Link.told g.C.Timestamps.told k (g.K.Link.state c.args.link.now) c1 (g.C.Timestamps.coming c.args.clock.now) b (now desk) desk.reader ahead c.args.kind stands c.requires.ended in
+          let so = answered (arc_value desk.shelf) user g.K.Link.told g.C.Timestamps.told k (g.K.Link.state c.args.link.now) c1 (g.C.Timestamps.coming c.args.clock.now) b (now desk) c.args.kind desk.reader ahead stands desk.seat desk.users.seat at (g.K.Link.state c.answer.new.link) (g.C.Timestamps.coming c.answer.new.clock) (now c.answer.new.desk) refl (users_turned b desk.seat c.answer.new.desk.seat desk.users.seat c.answer.new.desk.users.seat at (now desk) (now c.answer.new.desk) refl refl refl refl refl first.users_in_turn, table_turned b desk.seat c.answer.new.desk.seat desk.users.seat c.answer.new.desk.users.seat at (now desk) (now c.answer.new.desk) refl refl refl refl refl first.in_turn) (input_of c.args.kind desk.reader) ended
+          g.C.Timestamps.stamped c.answer.new.desk.seat c.answer.new.desk.users.seat (first.seat.0 ∙ at.0, first.seat.1 ∙ at.1, first.users.0 ∙ at.2, first.users.1 ∙ at.3) refl refl refl refl (Ok Cut) (subst (λ (y : Result Progress Stopped). IsAnswered (arc_value desk.shelf) g.K.Link.told g.C.Timestamps.told (g.K.Link.state c.args.link.now) (g.K.Link.state c.answer.new.link) (g.C.Timestamps.coming c.args.clock.now) (g.C.Timestamps.coming c.answer.new.clock) (input_of c.args.kind desk.reader) desk.seat desk.users.seat (now desk) (now c.answer.new.desk) y) cut first.answered) (λ _. first.stamped (subst (λ (r : Result Progress Stopped). IsOk r) (sym cut) refl)) in
+          record { goes = so.goes; ran_on = so.ran_on; timely = so.timely };
       stopped = no_stop Cut _ _ (stayed_ok Cut c.answer.result _ _ cut first.stopped);
       asked = first.asked;
       noted = first.noted;
