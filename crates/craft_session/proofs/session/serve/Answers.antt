@@ -171,7 +171,11 @@ returns-in-End g c =
         record {
           attending = c.is_cancelled.new.desk.attending;
           session = served_nothing _ _ _ _ _ _ _ _ _ _ _ _ _ x c.in-End.ensures.read refl;
-          timely = timely;
+          timely = timely_read (language_for c.args.desk.now.attending.user (arc_value c.args.desk.now.shelf)) (telling g.K.Link.told g.C.Timestamps.told g.C.Timestamps.stamped) (starting (g.K.Link.state c.args.link.now) (g.C.Timestamps.coming c.args.clock.now) b) (g.K.Link.state c.args.link.now) (g.K.Link.state c.loop.link) c.is_cancelled.new.desk.seat.seen c.is_cancelled.new.desk.users.seat.seen x.past.walk (moved.here.timely b at saw users first) f x.past.walk begins (g.K.Link.state c.read.new.self) _ _ c.in-End.ensures.read
+              (timely_none (language_for c.args.desk.now.attending.user (arc_value c.args.desk.now.shelf)) (telling g.K.Link.told g.C.Timestamps.told g.C.Timestamps.stamped) (starting (g.K.Link.state c.args.link.now) (g.C.Timestamps.coming c.args.clock.now) b) (g.K.Link.state c.read.new.self) f x.past.walk refl) (goes_nowhere g.K.Link.told b f);
+        } in
+    let at_end = timely b (refl, refl, refl, c.args.desk.now.same_place) h.1 p.1 (record { stamps_are = refl; users_stamps_are = refl; codes_are = p.1.codes_are }) in
+    record {
       shelf = (c.is_cancelled.ensures.shelf ∙ c.loop.invariant.shelf);
       hung_up = c.in-End.ensures.hung_up ∙ c.loop.invariant.hung_up;
       seat = moved.here.seat_is;
@@ -179,7 +183,7 @@ returns-in-End g c =
       session = record { before = h.0; users_before = p.0; saw = h.1; users_saw = p.1; attending = at_end.attending; session = at_end.session };
       prompt = prompt_more (language_for c.args.desk.now.attending.user (arc_value c.args.desk.now.shelf)) g.K.Link.begun g.K.Link.told g.C.Timestamps.told (g.K.Link.state c.args.link.now) (g.C.Timestamps.coming c.args.clock.now) c.args.desk.now.seat c.args.desk.now.users.seat (g.K.Link.state c.loop.link) (g.K.Link.state c.read.new.self) _ (g.C.Timestamps.coming c.loop.clock) (now c.is_cancelled.new.desk) c.is_cancelled.new.desk.reader c.loop.invariant.prompt c.in-End.ensures.begun moved.here.stands c.in-End.ensures.read.reads refl;
       heeds = λ limits. heeds_more (language_for c.args.desk.now.attending.user (arc_value c.args.desk.now.shelf)) g.K.Link.begun g.K.Link.told g.C.Timestamps.told (g.K.Link.state c.args.link.now) (g.C.Timestamps.coming c.args.clock.now) c.args.desk.now.seat c.args.desk.now.users.seat (g.K.Link.state c.loop.link) (g.K.Link.state c.read.new.self) _ (g.C.Timestamps.coming c.loop.clock) (now c.is_cancelled.new.desk) c.is_cancelled.new.desk.reader (c.loop.invariant.heeds limits) c.in-End.ensures.begun (λ b at saw users first. (moved.here.stands b at saw users first, moved.unended c.if-is_cancelled.false limits b at saw users first)) c.in-End.ensures.read.reads refl;
-      timely = λ b at saw users first. timely_read (language_for c.args.desk.now.attending.user (arc_value c.args.desk.now.shelf)) (telling g.K.Link.told g.C.Timestamps.told g.C.Timestamps.stamped) (starting (g.K.Link.state c.args.link.now) (g.C.Timestamps.coming c.args.clock.now) b) (g.K.Link.state c.args.link.now) (g.K.Link.state c.loop.link) c.is_cancelled.new.desk.seat.seen c.is_cancelled.new.desk.users.seat.seen (moved.here.timely b at saw users first) _ (g.K.Link.state c.read.new.self) _ _ c.in-End.ensures.read (timely_none (language_for c.args.desk.now.attending.user (arc_value c.args.desk.now.shelf)) (telling g.K.Link.told g.C.Timestamps.told g.C.Timestamps.stamped) (starting (g.K.Link.state c.args.link.now) (g.C.Timestamps.coming c.args.clock.now) b) (g.K.Link.state c.read.new.self) _ refl) (goes_nowhere g.K.Link.told b _);
+      timely = timely;
       end = ((λ is. c.in-End.ensures.read.ended), (λ ended. refl));
       all_read = λ t is. c.in-End.ensures.read.end t refl;
       read_fault = λ is. end_no _ is refl;
@@ -217,7 +221,11 @@ returns-in-Failed g c =
         record {
           attending = c.is_cancelled.new.desk.attending;
           session = served_nothing _ _ _ _ _ _ _ _ _ _ _ _ _ x c.in-Failed.ensures.read refl;
-          timely = timely;
+          timely = timely_read (language_for c.args.desk.now.attending.user (arc_value c.args.desk.now.shelf)) (telling g.K.Link.told g.C.Timestamps.told g.C.Timestamps.stamped) (starting (g.K.Link.state c.args.link.now) (g.C.Timestamps.coming c.args.clock.now) b) (g.K.Link.state c.args.link.now) (g.K.Link.state c.loop.link) c.is_cancelled.new.desk.seat.seen c.is_cancelled.new.desk.users.seat.seen x.past.walk (moved.here.timely b at saw users first) f x.past.walk begins (g.K.Link.state c.read.new.self) _ _ c.in-Failed.ensures.read
+              (timely_none (language_for c.args.desk.now.attending.user (arc_value c.args.desk.now.shelf)) (telling g.K.Link.told g.C.Timestamps.told g.C.Timestamps.stamped) (starting (g.K.Link.state c.args.link.now) (g.C.Timestamps.coming c.args.clock.now) b) (g.K.Link.state c.read.new.self) f x.past.walk refl) (goes_nowhere g.K.Link.told b f);
+        } in
+    let at_end = timely b (refl, refl, refl, c.args.desk.now.same_place) h.1 p.1 (record { stamps_are = refl; users_stamps_are = refl; codes_are = p.1.codes_are }) in
+    record {
       shelf = (c.is_cancelled.ensures.shelf ∙ c.loop.invariant.shelf);
       hung_up = c.in-Failed.ensures.hung_up ∙ c.loop.invariant.hung_up;
       seat = moved.here.seat_is;
@@ -225,7 +233,7 @@ returns-in-Failed g c =
       session = record { before = h.0; users_before = p.0; saw = h.1; users_saw = p.1; attending = at_end.attending; session = at_end.session };
       prompt = prompt_more (language_for c.args.desk.now.attending.user (arc_value c.args.desk.now.shelf)) g.K.Link.begun g.K.Link.told g.C.Timestamps.told (g.K.Link.state c.args.link.now) (g.C.Timestamps.coming c.args.clock.now) c.args.desk.now.seat c.args.desk.now.users.seat (g.K.Link.state c.loop.link) (g.K.Link.state c.read.new.self) _ (g.C.Timestamps.coming c.loop.clock) (now c.is_cancelled.new.desk) c.is_cancelled.new.desk.reader c.loop.invariant.prompt c.in-Failed.ensures.begun moved.here.stands c.in-Failed.ensures.read.reads refl;
       heeds = λ limits. heeds_more (language_for c.args.desk.now.attending.user (arc_value c.args.desk.now.shelf)) g.K.Link.begun g.K.Link.told g.C.Timestamps.told (g.K.Link.state c.args.link.now) (g.C.Timestamps.coming c.args.clock.now) c.args.desk.now.seat c.args.desk.now.users.seat (g.K.Link.state c.loop.link) (g.K.Link.state c.read.new.self) _ (g.C.Timestamps.coming c.loop.clock) (now c.is_cancelled.new.desk) c.is_cancelled.new.desk.reader (c.loop.invariant.heeds limits) c.in-Failed.ensures.begun (λ b at saw users first. (moved.here.stands b at saw users first, moved.unended c.if-is_cancelled.false limits b at saw users first)) c.in-Failed.ensures.read.reads refl;
-      timely = λ b at saw users first. timely_read (language_for c.args.desk.now.attending.user (arc_value c.args.desk.now.shelf)) (telling g.K.Link.told g.C.Timestamps.told g.C.Timestamps.stamped) (starting (g.K.Link.state c.args.link.now) (g.C.Timestamps.coming c.args.clock.now) b) (g.K.Link.state c.args.link.now) (g.K.Link.state c.loop.link) c.is_cancelled.new.desk.seat.seen c.is_cancelled.new.desk.users.seat.seen (moved.here.timely b at saw users first) _ (g.K.Link.state c.read.new.self) _ _ c.in-Failed.ensures.read (timely_none (language_for c.args.desk.now.attending.user (arc_value c.args.desk.now.shelf)) (telling g.K.Link.told g.C.Timestamps.told g.C.Timestamps.stamped) (starting (g.K.Link.state c.args.link.now) (g.C.Timestamps.coming c.args.clock.now) b) (g.K.Link.state c.read.new.self) _ refl) (goes_nowhere g.K.Link.told b _);
+      timely = timely;
       end = ((λ is. read_no _ is refl), (λ ended. unheld _ c.in-Failed.ensures.read.ended ended));
       all_read = λ t is. read_no _ is refl;
       read_fault = λ is. rose_later _ _ _ stands.exchanged.read_later (c.in-Failed.ensures.read.cause.cause refl);

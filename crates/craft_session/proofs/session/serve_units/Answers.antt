@@ -44,7 +44,7 @@ loop-at-preserved g c =
           let l = language_for user (arc_value c.args.desk.now.shelf) in
           let t = telling g.K.Link.told g.C.Timestamps.told g.C.Timestamps.stamped in
           let old = desk_at (g.K.Link.state c.args.link.now) (g.C.Timestamps.coming c.args.clock.now) c.args.desk.now in
-          let mid = desk_at (g.K.Link.state c.loop-at.link) (g.C.Timestamps.coming c.loop-at.clock) c.loop-at.desk in
+          let mid = record (desk_at (g.K.Link.state c.loop-at.link) (g.C.Timestamps.coming c.loop-at.clock) c.loop-at.desk) { reader = c.feed-fed.new.self } in
           let new = desk_at (g.K.Link.state c.serve_unit.new.link) (g.C.Timestamps.coming c.serve_unit.new.clock) c.serve_unit.new.desk in
           let rest = drop (c.loop-at.at + c.feed-fed.result.taken) c.args.piece.now in
           let at_mid : IsAt b c.loop-at.desk.seat c.loop-at.desk.users.seat = (c.loop-at.invariant.seat.0 ∙ at.0, c.loop-at.invariant.seat.1 ∙ at.1, c.loop-at.invariant.users.0 ∙ at.2, c.loop-at.invariant.users.1 ∙ at.3) in
@@ -75,7 +75,7 @@ returns-in-Cut g c =
           let l = language_for user (arc_value c.args.desk.now.shelf) in
           let t = telling g.K.Link.told g.C.Timestamps.told g.C.Timestamps.stamped in
           let old = desk_at (g.K.Link.state c.args.link.now) (g.C.Timestamps.coming c.args.clock.now) c.args.desk.now in
-          let mid = desk_at (g.K.Link.state c.loop-at.link) (g.C.Timestamps.coming c.loop-at.clock) c.loop-at.desk in
+          let mid = record (desk_at (g.K.Link.state c.loop-at.link) (g.C.Timestamps.coming c.loop-at.clock) c.loop-at.desk) { reader = c.feed-fed.new.self } in
           let new = desk_at (g.K.Link.state c.serve_unit.new.link) (g.C.Timestamps.coming c.serve_unit.new.clock) c.serve_unit.new.desk in
           let rest = drop (c.loop-at.at + c.feed-fed.result.taken) c.args.piece.now in
           let at_mid : IsAt b c.loop-at.desk.seat c.loop-at.desk.users.seat = (c.loop-at.invariant.seat.0 ∙ at.0, c.loop-at.invariant.seat.1 ∙ at.1, c.loop-at.invariant.users.0 ∙ at.2, c.loop-at.invariant.users.1 ∙ at.3) in
@@ -106,7 +106,7 @@ returns-in_err-serve_unit g c =
           let l = language_for user (arc_value c.args.desk.now.shelf) in
           let t = telling g.K.Link.told g.C.Timestamps.told g.C.Timestamps.stamped in
           let old = desk_at (g.K.Link.state c.args.link.now) (g.C.Timestamps.coming c.args.clock.now) c.args.desk.now in
-          let mid = desk_at (g.K.Link.state c.loop-at.link) (g.C.Timestamps.coming c.loop-at.clock) c.loop-at.desk in
+          let mid = record (desk_at (g.K.Link.state c.loop-at.link) (g.C.Timestamps.coming c.loop-at.clock) c.loop-at.desk) { reader = c.feed-fed.new.self } in
           let new = desk_at (g.K.Link.state c.serve_unit.new.link) (g.C.Timestamps.coming c.serve_unit.new.clock) c.serve_unit.new.desk in
           let rest = drop (c.loop-at.at + c.feed-fed.result.taken) c.args.piece.now in
           let at_mid : IsAt b c.loop-at.desk.seat c.loop-at.desk.users.seat = (c.loop-at.invariant.seat.0 ∙ at.0, c.loop-at.invariant.seat.1 ∙ at.1, c.loop-at.invariant.users.0 ∙ at.2, c.loop-at.invariant.users.1 ∙ at.3) in
