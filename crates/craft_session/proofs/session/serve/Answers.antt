@@ -16,7 +16,7 @@ use Rattle.craft_session.proofs.Gated.{are_entered_beside, are_entered_none, are
 use Rattle.craft_session.proofs.Noted.{beside_reports, noted_beside, noted_more, noted_moved, noted_none, noted_read}
 use Rattle.craft_session.proofs.Prompt.{prompt_more, prompt_none}
 use Rattle.craft_session.proofs.SessionSteps.{stands_none, stands_piece, stands_quiet, counted_more, served_nothing, served_here}
-use Rattle.craft_session.specs.Gathered.{desk_at, to_read, to_report}
+use Rattle.craft_session.specs.Gathered.{GoesTo, desk_at, to_read, to_report}
 use Rattle.craft_session.specs.Runs.{begins, waits}
 use Rattle.craft_session.specs.Stamps.{stamp_at}
 use Rattle.craft_session.specs.Timely.{WasTimely, reached, starting, telling}
@@ -299,14 +299,14 @@ loop-preserved g c =
         shelf = w.report.ensures.shelf ∙ (c.is_cancelled.ensures.shelf ∙ c.loop.invariant.shelf);
         seat = (w.report.ensures.seat.0 ∙ moved.here.seat_is.0, w.report.ensures.seat.1 ∙ moved.here.seat_is.1, w.report.ensures.seat.2 ∙ moved.here.seat_is.2, w.report.ensures.seat.3 ∙ moved.here.seat_is.3);
         users = (ap (λ (u : UserDesk g.row.U.Denot). u.seat.opening) w.report.ensures.users ∙ moved.here.users_are.0, ap (λ (u : UserDesk g.row.U.Denot). u.seat.place) w.report.ensures.users ∙ moved.here.users_are.1, ap (λ (u : UserDesk g.row.U.Denot). u.seat.places) w.report.ensures.users ∙ moved.here.users_are.2, ap (λ (u : UserDesk g.row.U.Denot). u.seat.turnstile) w.report.ensures.users ∙ moved.here.users_are.3);
-        stands = λ b at saw users first. (read_goes (telling g.K.Link.told g.C.Timestamps.told g.C.Timestamps.stamped) (desk_at (g.K.Link.state c.read.new.self) (g.C.Timestamps.coming c.loop.clock) c.is_cancelled.new.desk) (desk_at (g.K.Link.state w.report.new.link) (g.C.Timestamps.coming w.report.new.clock) w.report.new.desk) (to_report c.is_cancelled.new.desk.attending c.is_cancelled.new.desk.reader []) c.is_cancelled.new.desk.reader [] (Ok w.report.result) (arc_value c.args.desk.now.shelf) c.args.desk.now.seat c.args.desk.now.users.seat c.args.desk.now.attending.user (g.K.Link.state c.args.link.now) (g.K.Link.state c.loop.link) (g.C.Timestamps.coming c.args.clock.now)
-          (ap arc_value (c.is_cancelled.ensures.shelf ∙ c.loop.invariant.shelf)) moved.here.seat_is moved.here.users_are (w.report.ensures.goes c.is_cancelled.new.desk.reader []) _ _ w.in-Quiet.ensures.read (Ok On) (ap (λ (p : Progress). Ok p) w.in-On.is) b at (moved.here.stands b at saw users first).past.walk (moved.here.timely b at saw users first)
+        stands = λ b at saw users first. (read_goes (telling g.K.Link.told g.C.Timestamps.told g.C.Timestamps.stamped) (desk_at (g.K.Link.state c.read.new.self) (g.C.Timestamps.coming c.loop.clock) c.is_cancelled.new.desk) (desk_at (g.K.Link.state w.report.new.link) (g.C.Timestamps.coming w.report.new.clock) w.report.new.desk) (to_report c.is_cancelled.new.desk.attending c.is_cancelled.new.desk.reader []) w.report.new.desk.reader [] (Ok w.report.result) (arc_value c.args.desk.now.shelf) c.args.desk.now.seat c.args.desk.now.users.seat c.args.desk.now.attending.user (g.K.Link.state c.args.link.now) (g.K.Link.state c.loop.link) (g.C.Timestamps.coming c.args.clock.now)
+          (ap arc_value (c.is_cancelled.ensures.shelf ∙ c.loop.invariant.shelf)) moved.here.seat_is moved.here.users_are (subst (λ (r : Reader). GoesTo (telling g.K.Link.told g.C.Timestamps.told g.C.Timestamps.stamped) (desk_at (g.K.Link.state c.read.new.self) (g.C.Timestamps.coming c.loop.clock) c.is_cancelled.new.desk) (desk_at (g.K.Link.state w.report.new.link) (g.C.Timestamps.coming w.report.new.clock) w.report.new.desk) (to_report c.is_cancelled.new.desk.attending c.is_cancelled.new.desk.reader []) r [] (Ok w.report.result)) (sym w.report.ensures.reader) (w.report.ensures.goes c.is_cancelled.new.desk.reader [])) _ _ w.in-Quiet.ensures.read (Ok On) (ap (λ (p : Progress). Ok p) w.in-On.is) b at (moved.here.stands b at saw users first).past.walk (moved.here.timely b at saw users first)
           (looked_to g.K.Link.told b _ (g.K.Link.state w.report.new.link) c.is_cancelled.new.desk.seat c.is_cancelled.new.desk.users.seat (moved.here.seat_is.0 ∙ at.0, moved.here.seat_is.1 ∙ at.1, moved.here.users_are.0 ∙ at.2, moved.here.users_are.1 ∙ at.3) w.report.ensures.link _ _ (ap (λ (u : UserDesk g.row.U.Denot). u.seat.seen) w.report.ensures.users) w.report.ensures.entered)
           (stands_quiet _ _ _ _ _ _ _ _ _ _ _ _ (moved.here.stands b at saw users first) w.in-Quiet.ensures.read) (waits _ (moved.here.stands b at saw users first).past.looked begins)).goes;
         prompt = prompt_more (language_for c.args.desk.now.attending.user (arc_value c.args.desk.now.shelf)) g.K.Link.begun g.K.Link.told g.C.Timestamps.told (g.K.Link.state c.args.link.now) (g.C.Timestamps.coming c.args.clock.now) c.args.desk.now.seat c.args.desk.now.users.seat (g.K.Link.state c.loop.link) (g.K.Link.state w.report.new.link) _ (g.C.Timestamps.coming c.loop.clock) (now c.is_cancelled.new.desk) c.is_cancelled.new.desk.reader c.loop.invariant.prompt w.in-Quiet.ensures.begun moved.here.stands w.in-Quiet.ensures.read.reads w.report.ensures.link.wrote.reads;
         heeds = λ limits. heeds_more (language_for c.args.desk.now.attending.user (arc_value c.args.desk.now.shelf)) g.K.Link.begun g.K.Link.told g.C.Timestamps.told (g.K.Link.state c.args.link.now) (g.C.Timestamps.coming c.args.clock.now) c.args.desk.now.seat c.args.desk.now.users.seat (g.K.Link.state c.loop.link) (g.K.Link.state w.report.new.link) _ (g.C.Timestamps.coming c.loop.clock) (now c.is_cancelled.new.desk) c.is_cancelled.new.desk.reader (c.loop.invariant.heeds limits) w.in-Quiet.ensures.begun (λ b at saw users first. (moved.here.stands b at saw users first, moved.unended c.if-is_cancelled.false limits b at saw users first)) w.in-Quiet.ensures.read.reads w.report.ensures.link.wrote.reads;
-        timely = λ b at saw users first. (read_goes (telling g.K.Link.told g.C.Timestamps.told g.C.Timestamps.stamped) (desk_at (g.K.Link.state c.read.new.self) (g.C.Timestamps.coming c.loop.clock) c.is_cancelled.new.desk) (desk_at (g.K.Link.state w.report.new.link) (g.C.Timestamps.coming w.report.new.clock) w.report.new.desk) (to_report c.is_cancelled.new.desk.attending c.is_cancelled.new.desk.reader []) c.is_cancelled.new.desk.reader [] (Ok w.report.result) (arc_value c.args.desk.now.shelf) c.args.desk.now.seat c.args.desk.now.users.seat c.args.desk.now.attending.user (g.K.Link.state c.args.link.now) (g.K.Link.state c.loop.link) (g.C.Timestamps.coming c.args.clock.now)
-          (ap arc_value (c.is_cancelled.ensures.shelf ∙ c.loop.invariant.shelf)) moved.here.seat_is moved.here.users_are (w.report.ensures.goes c.is_cancelled.new.desk.reader []) _ _ w.in-Quiet.ensures.read (Ok On) (ap (λ (p : Progress). Ok p) w.in-On.is) b at (moved.here.stands b at saw users first).past.walk (moved.here.timely b at saw users first)
+        timely = λ b at saw users first. (read_goes (telling g.K.Link.told g.C.Timestamps.told g.C.Timestamps.stamped) (desk_at (g.K.Link.state c.read.new.self) (g.C.Timestamps.coming c.loop.clock) c.is_cancelled.new.desk) (desk_at (g.K.Link.state w.report.new.link) (g.C.Timestamps.coming w.report.new.clock) w.report.new.desk) (to_report c.is_cancelled.new.desk.attending c.is_cancelled.new.desk.reader []) w.report.new.desk.reader [] (Ok w.report.result) (arc_value c.args.desk.now.shelf) c.args.desk.now.seat c.args.desk.now.users.seat c.args.desk.now.attending.user (g.K.Link.state c.args.link.now) (g.K.Link.state c.loop.link) (g.C.Timestamps.coming c.args.clock.now)
+          (ap arc_value (c.is_cancelled.ensures.shelf ∙ c.loop.invariant.shelf)) moved.here.seat_is moved.here.users_are (subst (λ (r : Reader). GoesTo (telling g.K.Link.told g.C.Timestamps.told g.C.Timestamps.stamped) (desk_at (g.K.Link.state c.read.new.self) (g.C.Timestamps.coming c.loop.clock) c.is_cancelled.new.desk) (desk_at (g.K.Link.state w.report.new.link) (g.C.Timestamps.coming w.report.new.clock) w.report.new.desk) (to_report c.is_cancelled.new.desk.attending c.is_cancelled.new.desk.reader []) r [] (Ok w.report.result)) (sym w.report.ensures.reader) (w.report.ensures.goes c.is_cancelled.new.desk.reader [])) _ _ w.in-Quiet.ensures.read (Ok On) (ap (λ (p : Progress). Ok p) w.in-On.is) b at (moved.here.stands b at saw users first).past.walk (moved.here.timely b at saw users first)
           (looked_to g.K.Link.told b _ (g.K.Link.state w.report.new.link) c.is_cancelled.new.desk.seat c.is_cancelled.new.desk.users.seat (moved.here.seat_is.0 ∙ at.0, moved.here.seat_is.1 ∙ at.1, moved.here.users_are.0 ∙ at.2, moved.here.users_are.1 ∙ at.3) w.report.ensures.link _ _ (ap (λ (u : UserDesk g.row.U.Denot). u.seat.seen) w.report.ensures.users) w.report.ensures.entered)
           (stands_quiet _ _ _ _ _ _ _ _ _ _ _ _ (moved.here.stands b at saw users first) w.in-Quiet.ensures.read) (waits _ (moved.here.stands b at saw users first).past.looked begins)).timely;
         gate = c.loop.invariant.gate;

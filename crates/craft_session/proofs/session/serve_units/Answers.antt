@@ -1,6 +1,6 @@
 use Rattle.std.proofs.Common.{◌≡◌, ◌+◌, false, ℕ, List, [], drop, length, length-drop, Result, Ok, ap, refl, sym, ◌∙◌, arith, subst}
 use Rattle.std.specs.Prelude.{IsErr}
-use Rattle.std.proofs.lemmas.List.{take_rest}
+use Rattle.std.proofs.lemmas.List.{drop_all, take_rest}
 use Rattle.std.specs.Arc.{arc_value}
 use Rattle.dxc_causes.specs.Stops.{RoseOnlyFor}
 use Rattle.dxc_outside.specs.declared.stopped.Stopped.{Stopped}
@@ -55,6 +55,11 @@ loop-at-preserved g c =
           (went_to g.K.Link.told b (g.K.Link.state c.loop-at.link) (g.K.Link.state c.serve_unit.new.link) c.loop-at.desk.seat c.loop-at.desk.users.seat at_mid c.serve_unit.ensures.link _ _ _ c.serve_unit.ensures.asked) in
           subst (λ (y : Result Progress Stopped × Reader). GoesInTime t old new l (starting k c1 b) s.past.walk y.0 y.1 rest) (λ i. (on i, sym c.serve_unit.ensures.reader i)) on_then;
     }
+
+pub returns-clause-goes : goal.returns-clause-goes
+returns-clause-goes g c = λ user k c1 b at s.
+    subst (λ (rest : List ℕ). GoesInTime (telling g.K.Link.told g.C.Timestamps.told g.C.Timestamps.stamped) (desk_at (g.K.Link.state c.args.link.now) (g.C.Timestamps.coming c.args.clock.now) c.args.desk.now) (desk_at (g.K.Link.state c.loop-at.link) (g.C.Timestamps.coming c.loop-at.clock) c.loop-at.desk) (language_for user (arc_value c.args.desk.now.shelf)) (starting k c1 b) s.past.walk (Ok On) c.loop-at.desk.reader rest)
+    (drop_all c.loop-at.at c.args.piece.now (omega (arith, c.loop-at-test.false))) (c.loop-at.invariant.goes user k c1 b at s)
 
 pub returns-in-Cut : goal.returns-in-Cut
 returns-in-Cut g c =
