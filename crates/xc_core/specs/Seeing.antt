@@ -1,5 +1,5 @@
 -- What a place knows of the history, and what one of its turns does to it.
-use Rattle.std.specs.Prelude.{◌≡◌, ◌≢◌, ◌⊎◌, ℕ, ◌+◌, ◌≤◌, min, slice_index, true, List, [], ◌∷◌, ◌++◌, map, Option, Some, None}
+use Rattle.std.specs.Prelude.{◌≡◌, ◌≢◌, ◌⊎◌, ℕ, ◌+◌, ◌≤◌, min, slice_index, true, List, ◌++◌, map, Option, Some, None}
 use Rattle.std.specs.Coded.{Coded}
 use base.Stored.{Gv}
 use Rattle.turnstile.specs.Places.{TurnedBy, TurnedBackBy}

@@ -1,5 +1,5 @@
 -- What a turn of a place comes to.
-use Rattle.std.specs.Prelude.{◌≡◌, ◌≢◌, ◌<◌, ◌⊎◌, ℕ, true, List, [], ◌∷◌, ◌++◌, filter, length, min, Option, Some, None, Result, Ok, Err, IfSome}
+use Rattle.std.specs.Prelude.{◌≡◌, ◌≢◌, ◌⊎◌, ℕ, List, [], ◌∷◌, ◌++◌, filter, length, min, Option, Some, None, Result, Ok, Err, IfSome}
 use Rattle.std.specs.List.{range_with_len}
 use base.Stored.{Gv}
 use Rattle.turnstile.specs.Passing.{TurnstileView, Token}
