@@ -1,5 +1,5 @@
 -- What the disk of a start has read since it was handed out.
-use Rattle.std.proofs.Common.{◌≡◌, ◌⊎◌, ℕ, inl, inr, ⊎_elim, List, [], Ok, None, sym, ◌∙◌, subst}
+use Rattle.std.proofs.Common.{◌≡◌, ℕ, inl, inr, ⊎_elim, List, [], Ok, None, ◌∙◌}
 use Rattle.dxc_disk.specs.Alls.{all_weaker}
 use Rattle.dxc_disk.specs.Disks.{DiskState, IsDisk, ReadsNoMore, files}
 use Rattle.journal_core.specs.declared.book.Book.{Book}

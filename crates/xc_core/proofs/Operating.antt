@@ -1,5 +1,5 @@
 -- Operations that go on, and what a Provisioner's disk reads in them.
-use Rattle.std.proofs.Common.{◌≡◌, ℕ, ◌≤◌, List, [], ◌∷◌, ◌++◌, append-nil, append_assoc, Option, None, refl, sym, ◌∙◌, ap, subst}
+use Rattle.std.proofs.Common.{◌≡◌, ℕ, List, [], ◌∷◌, ◌++◌, append-nil, append_assoc, Option, None, refl, sym, ◌∙◌, ap, subst}
 use Rattle.std.specs.List.{AllByRecursion}
 use Rattle.dxc_disk.specs.Disks.{DiskState, IsDisk, LeavesOnly, Reading, files, last_read}
 use Rattle.dxc_disk.proofs.ReadingSteps.{all_read, files_on, last_on, reads_last}
