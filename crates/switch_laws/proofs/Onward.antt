@@ -257,44 +257,44 @@ module _ {U M : Type 0} (l : Language U M) (r : Rules) (excused : Excuse) (past 
     module _ (h : List Entry) (said : List (Spoken U M)) (ss : Desk) (before : AllSaid l p r.table said ss) (came : Rest said (length h) → Follows p h ss) where
       -- by then it has said all of this
       met_so : (w : Walk U M) → Run l p r.table h w → (m : ℕ) → Rest (said ++ spoken_in ss w.messages) m → MetBelow m (session_in w ∷ ss)
-      met_so w run m rests g lt = have_said l p r.table (all.spoken p) (said ++ spoken_in ss w.messages) m g (session_in w ∷ ss) (run_said l p r.table h said ss w (session_in w) refl run before) rests lt
+      met_so w run m later g lt = have_said l p r.table (all.spoken p) (said ++ spoken_in ss w.messages) m g (session_in w ∷ ss) (run_said l p r.table h said ss w (session_in w) refl run before) later lt
 
       ran : (w : Walk U M) → Run l p r.table h w → Rest (said ++ spoken_in ss w.messages) (length w.history) → Follows p w.history (session_in w ∷ ss)
-      ran _ begins rests = come h ss (came (subst (λ (x : List (Spoken U M)). Rest x (length h)) (append-nil said) rests))
-      ran _ (passes w e unused run) rests =
+      ran _ begins later = come h ss (came (subst (λ (x : List (Spoken U M)). Rest x (length h)) (append-nil said) later))
+      ran _ (passes w e unused run) later =
           let m = length (w.history ++ e ∷ []) in
           let lt = one_longer w.history e in
-          goes_by w.history e (session_in w ∷ ss) unused (met_so w run m rests w.history lt) (ran w run (behind_less l p r.table (all.spoken p) (said ++ spoken_in ss w.messages) m (length w.history) (omega (arith, lt)) rests))
-      ran _ (responds w u m es reply none serves run) rests =
-          let so = behind_last l p r.table (all.spoken p) said ss w.messages (record { behind = w.history ++ es; written = (w.earlier ++ w.latest) ++ l.response m u reply }) rests in
+          goes_by w.history e (session_in w ∷ ss) unused (met_so w run m later w.history lt) (ran w run (behind_less l p r.table (all.spoken p) (said ++ spoken_in ss w.messages) m (length w.history) (omega (arith, lt)) later))
+      ran _ (responds w u m es reply none serves run) later =
+          let so = behind_last l p r.table (all.spoken p) said ss w.messages (record { behind = w.history ++ es; written = (w.earlier ++ w.latest) ++ l.response m u reply }) later in
           response w u m es reply ss none serves (met_so w run (length (w.history ++ es)) so) (ran w run (behind_less l p r.table (all.spoken p) (said ++ spoken_in ss w.messages) (length (w.history ++ es)) (length w.history) (longer w.history es) so))
-      ran _ (waits w none run) rests = rest w ss none (ran w run rests)
-      ran _ (looks w cursor ms bytes due watch told run) rests =
+      ran _ (waits w none run) later = rest w ss none (ran w run later)
+      ran _ (looks w cursor ms bytes due watch told run) later =
           let e = entry p (Look cursor) Answered in
           let lt = one_longer w.history e in
           let m = length (w.history ++ e ∷ []) in
-          let so = behind_last l p r.table (all.spoken p) said ss w.messages (record { behind = w.history ++ e ∷ []; written = w.earlier ++ (w.latest ++ bytes) }) rests in
+          let so = behind_last l p r.table (all.spoken p) said ss w.messages (record { behind = w.history ++ e ∷ []; written = w.earlier ++ (w.latest ++ bytes) }) later in
           look w cursor ms bytes ss due watch told (met_so w run m so w.history lt) (ran w run (behind_less l p r.table (all.spoken p) (said ++ spoken_in ss w.messages) m (length w.history) (omega (arith, lt)) so))
 
     lived : (h : List Entry) (said : List (Spoken U M)) (ss : Desk) → Lives l p r.table past h said ss → Rest said (length h) → Follows p h ss
-    lived _ _ _ nobody_came rests = starts past none_yet refl refl
-    lived _ _ _ (passed_on h said ss e unused x) rests =
+    lived _ _ _ nobody_came later = starts past none_yet refl refl
+    lived _ _ _ (passed_on h said ss e unused x) later =
         let m = length (h ++ e ∷ []) in
         let lt = one_longer h e in
-        goes_by h e ss unused (have_said l p r.table (all.spoken p) said m h ss (all_said l p r.table past h said ss x) rests lt) (lived h said ss x (behind_less l p r.table (all.spoken p) said m (length h) (omega (arith, lt)) rests))
-    lived _ _ _ (served h said ss w run x) rests = ran h said ss (all_said l p r.table past h said ss x) (lived h said ss x) w run rests
-    lived _ _ _ (stopped h said ss w u front op run none fronts cuts x) rests =
+        goes_by h e ss unused (have_said l p r.table (all.spoken p) said m h ss (all_said l p r.table past h said ss x) later lt) (lived h said ss x (behind_less l p r.table (all.spoken p) said m (length h) (omega (arith, lt)) later))
+    lived _ _ _ (served h said ss w run x) later = ran h said ss (all_said l p r.table past h said ss x) (lived h said ss x) w run later
+    lived _ _ _ (stopped h said ss w u front op run none fronts cuts x) later =
         let before = all_said l p r.table past h said ss x in
         let whole = (w.history ++ front) ++ entry p op Cut ∷ [] in
         let le : length w.history ≤ length whole = let a = longer w.history front in let b = longer (w.history ++ front) (entry p op Cut ∷ []) in omega (arith, a, b) in
-        stop w u front op ss none fronts cuts (met_so h said ss before (lived h said ss x) w run (length whole) rests) (ran h said ss before (lived h said ss x) w run (behind_less l p r.table (all.spoken p) (said ++ spoken_in ss w.messages) (length whole) (length w.history) le rests))
-    lived _ _ _ (stopped_at_users h said ss w u op run none wants changing x) rests = stop_at_users w u op ss none wants changing (ran h said ss (all_said l p r.table past h said ss x) (lived h said ss x) w run rests)
+        stop w u front op ss none fronts cuts (met_so h said ss before (lived h said ss x) w run (length whole) later) (ran h said ss before (lived h said ss x) w run (behind_less l p r.table (all.spoken p) (said ++ spoken_in ss w.messages) (length whole) (length w.history) le later))
+    lived _ _ _ (stopped_at_users h said ss w u op run none wants changing x) later = stop_at_users w u op ss none wants changing (ran h said ss (all_said l p r.table past h said ss x) (lived h said ss x) w run later)
 
   pub passed : (h : List Entry) → 0 < n → Right h → ((p : ℕ) → p < n → Lives l p r.table past h (all.spoken p) (all.sessions p)) → ((p : ℕ) → n ≤ p → all.sessions p ≡ none_yet) → ArePassed l r.limit excused (start l r excused past n) all r.table past h
   passed h pos good lives beyond =
-      let rests = λ (p : ℕ). none_later l p r.table (all.spoken p) in
+      let later = λ (p : ℕ). none_later l p r.table (all.spoken p) in
       let opening : Pl past (λ p. none_yet) = record { turns = []; plays = opens; passes = λ front e back is far. absurd (let k = ap length is ∙ length-append front (e ∷ back) in omega (arith, k, far)) } in
       let x = merged place_of IsTaken taken_too past none_yet Right Pl Through Met n (λ g e y. last_within l r excused past n g e y.2) (shorter l r excused past n) opening settles takes_only pos (length h + 1) h all.sessions (omega arith)
-      (λ p lt. lived p h (all.spoken p) (all.sessions p) (lives p lt) (rests p (length h))) beyond good in
-      let y = settles h all.sessions (λ p lt. have_said l p r.table (all.spoken p) (all.spoken p) (length h + 1) h (all.sessions p) (all_said l p r.table past h (all.spoken p) (all.sessions p) (lives p lt)) (rests p (length h + 1)) (omega arith)) x in
+      (λ p lt. lived p h (all.spoken p) (all.sessions p) (lives p lt) (later p (length h))) beyond good in
+      let y = settles h all.sessions (λ p lt. have_said l p r.table (all.spoken p) (all.spoken p) (length h + 1) h (all.sessions p) (all_said l p r.table past h (all.spoken p) (all.sessions p) (lives p lt)) (later p (length h + 1)) (omega arith)) x in
       record { turns = y.turns; played = y.plays; passes = y.passes }
