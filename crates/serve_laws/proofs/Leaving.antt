@@ -1,5 +1,5 @@
 -- What stands for a history where the Provisioner is home.
-use Rattle.std.proofs.Common.{◌≡◌, ◌⊎◌, ◌∙◌, arith, List, Option, Some, None, inl, inr, refl, sym}
+use Rattle.std.proofs.Common.{◌≡◌, ◌⊎◌, ◌∙◌, arith, List, Some, None, inl, inr, refl, sym}
 use Rattle.std.proofs.lemmas.Option.{IfSome_then}
 use Rattle.dxc_disk.specs.Disks.{DiskState, Leaves}
 use Rattle.dxc_model.specs.declared.entry.Entry.{Entry}
@@ -18,7 +18,7 @@ use Rattle.xc_core.specs.Restarts.{IsHalted}
 use Rattle.xc_core.specs.States.{HomeIs, IsReadyOrHalted, Opening, StandsFor, outset_of}
 use Rattle.xc_core.proofs.Journalling.{home_images}
 use Rattle.xc_core.proofs.Rereading.{halted_images}
-use Rattle.serve_laws.specs.Copies.{IsBroughtHome, LeavesChanges, StandsForChanges}
+use Rattle.serve_laws.specs.Copies.{IsBroughtHome, LeavesChanges}
 use Rattle.serve_laws.proofs.Standbys.{StandbyLaws}
 
 module _ {D : Type 0} (told : Type 0) (state : D → DiskState) (laws : StandbyLaws told state) where
