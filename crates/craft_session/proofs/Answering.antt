@@ -1,6 +1,6 @@
 -- A unit was answered in the shelf's language.
 use Rattle.std.specs.Prelude.{is_some, IsOk}
-use Rattle.std.proofs.Common.{◌≡◌, ◌≢◌, ◌++◌, ℕ, Bool, true, false, List, [], Option, Some, None, Result, Ok, Err, ap, inl, inr, refl, sym, ◌∙◌, subst}
+use Rattle.std.proofs.Common.{◌≡◌, ◌≢◌, ◌++◌, ℕ, true, false, List, [], Option, Some, None, Result, Ok, Err, ap, inl, inr, refl, sym, subst}
 use base.Stored.{Gv}
 use Rattle.dxc_outside.specs.declared.clock.Moment.{Moment}
 use Rattle.dxc_outside.specs.declared.gate.GatePlace.{GatePlace}
@@ -33,7 +33,7 @@ use Rattle.craft_session.specs.Progresses.{progress_of}
 use Rattle.craft_session.specs.Responses.{beside}
 use Rattle.craft_session.specs.Desks.{IsReplied, IsSaidOf, IsStoppedAt, IsAnswered, input_of}
 use Rattle.craft_session.specs.Meanings.{asks, tag_of, language_for, wants}
-use Rattle.craft_session.specs.Seats.{IsSameSeat, IsSameUserSeat, SeatAt, UserSeatAt}
+use Rattle.craft_session.specs.Seats.{SeatAt, UserSeatAt}
 use Rattle.craft_session.specs.Sessions.{Now, Beginning, IsAt, IsSaid, Stands, Goes, walk_after}
 use Rattle.craft_session.specs.Stamps.{Stamp, stamp_at}
 use Rattle.craft_session.specs.Timely.{reached}

@@ -141,7 +141,8 @@ pub(crate) fn serve<
     ensures timely { WasTimely (language_for desk.old.attending.user (arc_value desk.old.shelf))
         (telling K.told C.told C.stamped)
         (stamp_at (C.coming clock.old) (K.state link.old) desk.old.seat desk.old.users.seat)
-        (stamp_at (C.coming clock.new) (K.state link.new) desk.new.seat desk.new.users.seat) result }
+        (stamp_at (C.coming clock.new) (K.state link.new) desk.new.seat desk.new.users.seat)
+        result }
     ensures hung_up { K.hung_up link.new ≡ K.hung_up link.old }
     ensures end { (result ≡ SessionEnd.End) ↔ IsTrue (K.state link.new).ended }
     ensures all_read { K.told → result ≡ SessionEnd.End → (K.state link.new).left ≡ [] }

@@ -45,7 +45,7 @@ use Rattle.switch_laws.proofs.Following.{Good as GoodTable, in_front, last_withi
 use Rattle.switch_laws.proofs.Listening.{Good as GoodUsers, last_came, last_within as last_user, shorter as users_shorter}
 use Rattle.switch_laws.proofs.Merging.{merged, snoc_once}
 use Rattle.switch_laws.proofs.Ordering.{Anywhere, ended, HearsAt, Laid, Script, TakesAt, does_free, hears, laid, nothing_done, table_append, table_passes, takes, users_append, users_pass}
-use Rattle.switch_laws.proofs.Passing.{all_stay, answered_on, begun_at, begun_on, goes_further, newest_went_on, one_came, reported_on, rested_on, stays, step_begun, unanswered_on}
+use Rattle.switch_laws.proofs.Passing.{all_stay, answered_on, begun_on, goes_further, newest_went_on, one_came, reported_on, rested_on, stays, step_begun, unanswered_on}
 use Rattle.switch_laws.proofs.Placing.{placed_again, placed_here}
 use Rattle.switch_laws.proofs.Replying.{Free, Takes, recalled, uses}
 use Rattle.switch_laws.proofs.Standings.{is_due, standing_more}

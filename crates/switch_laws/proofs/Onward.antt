@@ -1,7 +1,6 @@
 -- Each place's sessions, step by step along the history, on the plain element, whose turns pass each beginning of the history.
 use Rattle.std.specs.Prelude.{is_some, option_to_list}
-use Rattle.std.specs.List.{AllByRecursion}
-use Rattle.std.proofs.Common.{◌≡◌, ◌⊎◌, ℕ, suc, ◌+◌, ◌<◌, ◌≤◌, arith, true, false, length, length-append, List, [], ◌∷◌, ◌++◌, Option, Some, None, refl, sym, ◌∙◌, ap, subst, append_assoc, append-nil, inl, inr}
+use Rattle.std.proofs.Common.{◌≡◌, ◌⊎◌, ℕ, ◌+◌, ◌<◌, ◌≤◌, arith, true, false, length, length-append, List, [], ◌∷◌, ◌++◌, Some, None, refl, sym, ◌∙◌, ap, subst, append_assoc, append-nil, inl, inr}
 use Rattle.dxc_model.specs.declared.op.Op.{Op}
 use Rattle.dxc_model.specs.declared.op.Op.TheVariants.{Look}
 use Rattle.dxc_model.specs.declared.op.Change.{Change}
@@ -23,12 +22,12 @@ use Rattle.craft_session.specs.Runs.{Run, Walk, begins, passes, responds, waits,
 use Rattle.craft_session.specs.Walks.{CutsAt, FrontOf, IsMend, IsUnused, Mends, Serves, attending_after}
 use Rattle.craft_session.proofs.Playing.{fits_last}
 use Rattle.switch_laws.specs.Beginnings.{AllSessions, ArePassed, HaveSaid, IsPassed}
-use Rattle.switch_laws.specs.Element.{Element, Session, Turn, answered, answers, comes, fresh, halted, mends, opens, ready, reported, reports, rested, rests, stops, stops_at_users, unanswered, call, answer, rest as rest_turn, look as look_turn, mend as mend_turn, stop as stop_turn, stop_at_users as users_turn}
+use Rattle.switch_laws.specs.Element.{Session, Turn, answered, answers, comes, fresh, halted, mends, opens, ready, reported, reports, rested, rests, stops, stops_at_users, unanswered, call, answer, rest as rest_turn, look as look_turn, mend as mend_turn, stop as stop_turn, stop_at_users as users_turn}
 use Rattle.switch_laws.specs.Laws.{Lives, Spoken, doubted_by_entry, doubted_in, standing_by_entry, standing_in, element, nobody_came, passed_on, served, session_in, spoken_in, stopped, stopped_at_users}
 use Rattle.switch_laws.specs.Moments.{AreBegun, IsBegun}
 use Rattle.switch_laws.specs.Placed.{placed}
 use Rattle.switch_laws.proofs.Following.{At, Good, IsTaken, in_front, lands, lands_idle, lands_still, lands_there, last_within, may_cut, shorter, start, taken_too}
-use Rattle.switch_laws.proofs.Merging.{Track, goes_by, goes_free, goes_on, long, merged, snoc_once, starts}
+use Rattle.switch_laws.proofs.Merging.{Track, goes_by, goes_free, goes_on, merged, snoc_once, starts}
 use Rattle.switch_laws.proofs.Ordering.{ended}
 use Rattle.switch_laws.proofs.Passing.{all_stay, answered_on, begun_on, goes_further, newest_went_on, one_came, reported_on, rested_on, stays, step_begun, unanswered_on}
 use Rattle.switch_laws.proofs.Placing.{placed_again, placed_here}

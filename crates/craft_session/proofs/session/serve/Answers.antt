@@ -1,16 +1,15 @@
-use Rattle.std.specs.Prelude.{IsErr, is_some}
+use Rattle.std.specs.Prelude.{IsErr}
 use Rattle.std.proofs.Common.{rules, ◌≡◌, ℕ, List, false, [], ◌∷◌, Result, Ok, Err, refl, sym, ◌∙◌, ap, subst, arith}
 use Rattle.std.proofs.lemmas.Grind.{common_steps}
 use Rattle.std.specs.Arc.{arc_value}
 use Rattle.craft_session.specs.Desks.{now}
 use Rattle.craft_session.specs.declared.users.UserDesk.{UserDesk}
 use Rattle.craft_session.specs.Meanings.{language_for}
-use Rattle.tl1_text.specs.declared.reader.UnitKind.TheVariants.{More}
 use Rattle.tl1_text.specs.Reading.{Reader}
 use Rattle.craft_session.specs.declared.end.Progress.{Progress}
 use Rattle.craft_session.specs.declared.end.Progress.TheVariants.{On, Cut}
 use Rattle.craft_session.specs.Noted.{stood}
-use Rattle.craft_session.specs.Sessions.{Beginning, Stands, done_before}
+use Rattle.craft_session.specs.Sessions.{Beginning, done_before}
 use Rattle.craft_session.proofs.Ends.{bytes_came, cancelled_no, counted_none, end_came, end_no, few_here, few_more, idle_no, later_behind, quiet_came, read_no, rose_behind, rose_later, spent_no, stayed, stayed_ok, stop_no, unattended_no, unheld, write_no}
 use Rattle.craft_session.proofs.Gated.{are_entered_beside, are_entered_none, are_entered_on}
 use Rattle.craft_session.proofs.Noted.{beside_reports, noted_beside, noted_more, noted_moved, noted_none, noted_read}

@@ -1,5 +1,5 @@
 use Rattle.std.specs.Prelude.{IsErr, IsOk}
-use Rattle.std.proofs.Common.{◌≡◌, false, Result, Ok, Err, refl, sym, ap, ◌∙◌, subst}
+use Rattle.std.proofs.Common.{◌≡◌, Result, Ok, Err, refl, sym, ap, ◌∙◌, subst}
 use Rattle.std.specs.Arc.{arc_value}
 use Rattle.dxc_causes.specs.Stops.{RoseOnlyFor}
 use Rattle.dxc_outside.specs.declared.stopped.Stopped.{Stopped}
