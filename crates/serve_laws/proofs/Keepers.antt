@@ -77,8 +77,8 @@ module _ {D : Type 0} (told : Type 0) (state : D → DiskState) (laws : StandbyL
         let synced : IsSynced (state d) = ⊎_elim (λ s. s) (λ doubt. absurd (certain doubt.0 doubt.1)) (x.1.read t).synced in
         let reads : IsFileOf o h (state d).reads_as = ⊎_elim (λ r. r) (λ doubt. absurd (certain doubt.0.0 doubt.0.1)) (x.1.reads t) in
         IfSome_then (named pair.standby) {P = λ (file : List ℕ). file ≡ (state d).reads_as} {Q = IsFileOf o h}
-            (laws.current d pair keeps (laws.joined t d line pair.primary by mirrors none synced))
-            (λ file is. subst (IsFileOf o h) (sym is) reads);
+        (laws.current d pair keeps (laws.joined t d line pair.primary by mirrors none synced))
+        (λ file is. subst (IsFileOf o h) (sym is) reads);
   }
   keeper_by None x = absurd (let no : None ≡ Some x.0 = sym nobody ∙ x.1 in cc)
 
