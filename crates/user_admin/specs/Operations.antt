@@ -57,7 +57,7 @@ abbrev pub AreOperations : Opening → List UserEntry → List ℕ → List Oper
 AreOperations o h file [] = Unit {0}
 AreOperations o h file (p ∷ ps) = AllByRecursion (MayBe o h p.entry.op) (file ∷ p.readings) × AreOperations o (h ++ p.entry ∷ []) (last_read file p.readings) ps
 
--- the moment at which the first so many of these had ended, if they began at that one
+-- the moment at which the first so many of these had ended, or all, if they began at that one
 abbrev pub ended_at : ℕ → List Operation → ℕ → ℕ
 ended_at begun ps zero = begun
 ended_at begun [] (suc n) = begun
@@ -93,6 +93,6 @@ pub record HasRead (o : Opening) (h : List UserEntry) (s : DiskState) : Type 0 w
   pub begun : ℕ
   pub in_order : EndInOrder begun operations s.moment
   -- what was read behind the first n was read when they had ended
-  pub since : (n : ℕ) → n ≤ length operations → AllByRecursion (λ r. ended_at begun operations n ≤ r.at) (drop (length o.readings + (length started + length (readings_in (take n operations)))) s.readings)
+  pub since : (n : ℕ) → AllByRecursion (λ r. ended_at begun operations n ≤ r.at) (drop (length o.readings + (length started + length (readings_in (take n operations)))) s.readings)
   -- a crash at that moment or later leaves a file that holds them
-  pub left : (n : ℕ) (file : List ℕ) → n ≤ length operations → s.left_since (ended_at begun operations n) file → StandsForFirst o operations (λ k. ended_at begun operations k ≤ ended_at begun operations n) file
+  pub left : (n : ℕ) (file : List ℕ) → s.left_since (ended_at begun operations n) file → StandsForFirst o operations (λ k. ended_at begun operations k ≤ ended_at begun operations n) file
