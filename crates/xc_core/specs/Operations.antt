@@ -1,7 +1,7 @@
 -- What a run of the controller does to its journal, operation by operation, as the journal's disk tells by what it read in each.
 use Rattle.std.specs.Prelude.{◌≡◌, ◌⊎◌, ℕ, ◌≤◌, ◌<◌, List, [], ◌∷◌, ◌++◌, Option}
 use Rattle.std.specs.List.{AllByRecursion}
-use Rattle.dxc_disk.specs.Disks.{DiskState, files, last_read}
+use Rattle.dxc_disk.specs.Disks.{DiskState, Reading, files, last_read}
 use Rattle.dxc_model.specs.declared.op.Op.{Op}
 use Rattle.dxc_model.specs.declared.op.Change.{Change}
 use Rattle.journal_core.specs.Headers.{header}
@@ -48,10 +48,18 @@ abbrev pub AreOperations : Past → List ℕ → List Operation → Past → Typ
 AreOperations b file [] now = now ≡ b
 AreOperations b file (x ∷ xs) now = AllByRecursion (MayBe b x.doubt x.task) (file ∷ x.readings) × ((next : Past) × ReckonsTo b x.made next × AreOperations next (last_read file x.readings) xs now)
 
--- they ended one after the other, from this moment on, and the last of them by that one
-abbrev pub EndInOrder : ℕ → List Operation → ℕ → Type 0
-EndInOrder from [] by = from ≤ by
-EndInOrder from (x ∷ xs) by = from ≤ x.ended × EndInOrder x.ended xs by
+-- From this moment on they ended one after the other, the last of them by that one; and each read its part of these, in order, when the one before it had ended.
+abbrev pub InOrder : ℕ → List Operation → List Reading → ℕ → Type 0
+InOrder from [] readings by = (readings ≡ []) × (from ≤ by)
+InOrder from (x ∷ xs) readings by = (from ≤ x.ended)
+    × ((own : List Reading) × (later : List Reading) × (readings ≡ own ++ later) × (files own ≡ x.readings) × AllByRecursion (λ r. from ≤ r.at) own × InOrder x.ended xs later by)
+
+-- so they did of the last readings of this disk
+pub record ReadInOrder (xs : List Operation) (s : DiskState) : Type 0 where
+  pub before : List Reading
+  pub since : List Reading
+  pub readings : s.readings ≡ before ++ since
+  pub in_order : InOrder 0 xs since s.moment
 
 -- one of them ended at this moment
 abbrev pub EndsAt : List Operation → ℕ → Type 0
@@ -81,5 +89,5 @@ pub record HasRead (from : Outset) (made : List Change) (now : Past) (s : DiskSt
   pub are : AreOperations from.past (last_read [] from.readings) operations now
   pub made_is : made_in operations ≡ made
   pub readings : files s.readings ≡ from.readings ++ readings_in operations
-  pub in_order : EndInOrder 0 operations s.moment
+  pub in_order : ReadInOrder operations s
   pub left : (t : ℕ) (c : List ℕ) → EndsAt operations t → s.left_since t c → LeftAfter from.past operations t c ⊎ s.may_leave c

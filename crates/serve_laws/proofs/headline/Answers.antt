@@ -10,6 +10,7 @@ returns g c = λ old new site s o p j e.
       synced = c.standbys_are_adopted.ensures.synced;
       adopted = c.standbys_are_adopted.ensures.adopted;
       readings = c.readings_stand_for_operations.ensures;
+      crashes = c.crashes_stand_for_operations.ensures;
       users = c.standbys_stand_for_users.ensures.copies;
       copies = c.copies_are_readings.ensures.copies;
       joined = c.copies_are_readings.ensures.joined;
