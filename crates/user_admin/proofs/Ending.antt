@@ -6,7 +6,6 @@ use Rattle.std.proofs.lemmas.Bool.{cases_lt}
 use Rattle.std.proofs.lemmas.List.{take-append-drop, take-append-le, take_all}
 use Rattle.std.proofs.lemmas.Option.{slice_get_past}
 use Rattle.dxc_disk.specs.Alls.{all_append, all_behind}
-use Rattle.user_admin.specs.declared.op.UserEntry.{UserEntry}
 use Rattle.user_admin.specs.Histories.{Opening}
 use Rattle.user_admin.specs.Operations.{EndInOrder, IsFileAfter, MayBe, Operation, StandsAt, StandsForFirst, ended_at, entries_in}
 
