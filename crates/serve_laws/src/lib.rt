@@ -12,7 +12,7 @@ use dxc_leaving::LetGo;
 use dxc_outside::{Gate, Lines, Link, Listener, Opener, Spawner};
 use frame_worker::laws::own_bytes;
 use standby_link::laws::copies_are_readings;
-use user_laws::standbys_stand_for_users;
+use user_laws::{crashes_stand_for_users, standbys_stand_for_users};
 
 /// The headline of the README as one law, of a server whose line ended with Done, at any states of its two turnstiles and of its fabric that their rules
 /// allow and in which passes and workers know what the places and seats know that jobs left.
@@ -40,6 +40,7 @@ where
     standbys_are_adopted::<D>();
     readings_stand_for_operations::<D>();
     crashes_stand_for_operations::<D>();
+    crashes_stand_for_users::<D>();
     standbys_stand_for_users::<D>();
     copies_are_readings::<D>();
 }

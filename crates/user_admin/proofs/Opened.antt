@@ -32,7 +32,7 @@ use Rattle.user_admin.specs.Spellable.{AreDescribed}
 use Rattle.user_admin.specs.Files.{FoldsTo}
 use Rattle.user_admin.specs.Journals.{IsAtHome, IsBadRecord}
 use Rattle.user_admin.specs.Histories.{Opening}
-use Rattle.user_admin.specs.Operations.{HasRead, IsFileAfter, IsFileOf, MayBeAtStart, ended_at}
+use Rattle.user_admin.specs.Operations.{HasRead, IsFileAfter, IsFileOf, EndedBy, MayBeAtStart, ended_at}
 use Rattle.user_admin.specs.States.{IsOfShelf, StandsFor, opening_of, recorded}
 use Rattle.user_admin.specs.Openings.{Begins, HasBadRecord, IsOpening, LeavesOpened}
 use Rattle.user_admin.proofs.Keeping.{file_by, untried}
@@ -266,7 +266,7 @@ module _ {D : Type 0} (told : Type 0) (state : D → DiskState) (shelf : Content
         begun = (state s.journal.0).moment;
         in_order = omega arith;
         since = λ n. since_end (λ r. ended_at (state s.journal.0).moment [] n ≤ r.at) (state s.journal.0) (files a.readings) (files only.more) [] n (omega arith) (reads_all x);
-        left = λ n file left. holds_all opening [] file (λ k. ended_at (state s.journal.0).moment [] k ≤ ended_at (state s.journal.0).moment [] n)
+        left = λ n file left. holds_all opening [] file (EndedBy (state s.journal.0).moment [] (ended_at (state s.journal.0).moment [] n))
             (images file ((disk_now x).only_now file (subst (λ (t : ℕ). (state s.journal.0).left_since t file) (none_ended (state s.journal.0).moment n) left)));
       }
 

@@ -10,7 +10,7 @@ use Rattle.dxc_disk.proofs.ReadingSteps.{all_read, files_on, last_on, reads_last
 use Rattle.user_admin.specs.declared.op.UserChange.{UserChange}
 use Rattle.user_admin.specs.declared.op.UserEntry.{UserEntry}
 use Rattle.user_admin.specs.Histories.{IsInDoubt, Opening}
-use Rattle.user_admin.specs.Operations.{AreOperations, EndInOrder, HasRead, IsFileAfter, MayBe, Operation, StandsForFirst, ended_at, entries_in, readings_in}
+use Rattle.user_admin.specs.Operations.{AreOperations, EndInOrder, EndedBy, HasRead, IsFileAfter, MayBe, Operation, StandsForFirst, ended_at, entries_in, readings_in}
 use Rattle.user_admin.proofs.Ending.{dropped_more, ended_before, ended_behind, ended_front, holds_all, holds_front, holds_still, order_more}
 
 entries_append : (ps qs : List Operation) → entries_in (ps ++ qs) ≡ entries_in ps ++ entries_in qs
@@ -107,7 +107,7 @@ module _ (o : Opening) (h : List UserEntry) (old : DiskState) (disk : IsDisk old
 
       module _ (file : List ℕ) (left : new.left_since then file) where
         abbrev Ended : ℕ → Type 0
-        Ended k = ended_at x.begun all k ≤ then
+        Ended = EndedBy x.begun all then
 
         -- by that moment it hadn't ended
         left_front : then < new.moment → StandsForFirst o all Ended file
@@ -120,7 +120,7 @@ module _ (o : Opening) (h : List UserEntry) (old : DiskState) (disk : IsDisk old
             let same : then ≡ t = then_is (before n (omega arith)).0 in
             let le : t ≤ old.moment = ended_before x.begun x.operations old.moment n x.in_order in
             ⊎_elim
-            (λ was. holds_still o x.operations file done Ended (λ k. ended_at x.begun x.operations k ≤ t) (λ k ended. ((before k ended).0, let at = (before k ended).1 in omega (arith, at, same))) (x.left n file was))
+            (λ was. holds_still o x.operations file done Ended (EndedBy x.begun x.operations t) (λ k ended. ((before k ended).0, let at = (before k ended).1 in omega (arith, at, same))) (x.left n file was))
             (λ may. holds_front o x.operations file done Ended (λ k ended. (before k ended).0) (subst (λ (g : List UserEntry). MayBe o g e.op file) (sym x.entered) may))
             (only.before t file le (subst (λ (u : ℕ). new.left_since u file) same left))
 

@@ -63,6 +63,10 @@ ended_at begun ps zero = begun
 ended_at begun [] (suc n) = begun
 ended_at begun (p ∷ ps) (suc n) = ended_at p.ended ps n
 
+-- the first n had ended by this moment
+abbrev pub EndedBy : ℕ → List Operation → ℕ → ℕ → Type 0
+EndedBy begun ps t n = ended_at begun ps n ≤ t
+
 -- none ended before the one in front of it, nor after now
 abbrev pub EndInOrder : ℕ → List Operation → ℕ → Type 0
 EndInOrder begun [] now = begun ≤ now
@@ -95,4 +99,4 @@ pub record HasRead (o : Opening) (h : List UserEntry) (s : DiskState) : Type 0 w
   -- what was read behind the first n was read when they had ended
   pub since : (n : ℕ) → AllByRecursion (λ r. ended_at begun operations n ≤ r.at) (drop (length o.readings + (length started + length (readings_in (take n operations)))) s.readings)
   -- a crash at that moment or later leaves a file that holds them
-  pub left : (n : ℕ) (file : List ℕ) → s.left_since (ended_at begun operations n) file → StandsForFirst o operations (λ k. ended_at begun operations k ≤ ended_at begun operations n) file
+  pub left : (n : ℕ) (file : List ℕ) → s.left_since (ended_at begun operations n) file → StandsForFirst o operations (EndedBy begun operations (ended_at begun operations n)) file

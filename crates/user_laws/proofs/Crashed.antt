@@ -4,7 +4,7 @@ use Rattle.std.specs.Prelude.{slice_get}
 use Rattle.dxc_disk.specs.Disks.{DiskState}
 use Rattle.user_admin.specs.declared.op.UserEntry.{UserEntry}
 use Rattle.user_admin.specs.Histories.{Opening}
-use Rattle.user_admin.specs.Operations.{IsFileAfter, Operation, StandsAt, StandsForFirst, ended_at, entries_in}
+use Rattle.user_admin.specs.Operations.{EndedBy, IsFileAfter, Operation, StandsAt, StandsForFirst, entries_in}
 use Rattle.user_laws.specs.Crashes.{CrashesStand, IsFileWithNext, StandsForEntries, ended}
 
 -- the entries of the first n operations are the first n entries
@@ -35,4 +35,4 @@ module _ (o : Opening) (h : List UserEntry) (ps : List Operation) (are : entries
 pub crashes_stand : {D : Type 0} (told : Type 0) (state : D → DiskState) → CrashesStand told state
 crashes_stand told state t o h s st n file few left =
     let x = st.read t in
-    in_words o h x.operations x.entered n few (λ k. ended_at x.begun x.operations k ≤ ended x n) (omega arith) file (x.left n file left)
+    in_words o h x.operations x.entered n few (EndedBy x.begun x.operations (ended x n)) (omega arith) file (x.left n file left)

@@ -21,11 +21,11 @@ module _ {o : Opening} {h : List UserEntry} {s : DiskState} (x : HasRead o h s) 
   readings_before = length o.readings + length x.started
 
   -- the first n had ended by the time when it had so many readings
-  abbrev pub HadEnded : ℕ → ℕ → Type 0
-  HadEnded by n = readings_before + length (readings_in (take n x.operations)) ≤ by
+  abbrev pub EndedByReading : ℕ → ℕ → Type 0
+  EndedByReading by n = readings_before + length (readings_in (take n x.operations)) ≤ by
 
   abbrev pub StandsForOperations : ℕ → List ℕ → Type 0
-  StandsForOperations by file = StandsForNone o readings_before by file ⊎ StandsForFirst o x.operations (HadEnded by) file
+  StandsForOperations by file = StandsForNone o readings_before by file ⊎ StandsForFirst o x.operations (EndedByReading by) file
 
 -- Where the users' keeper is home, each file that its disk read since it was handed out stands for the first operations of the history, with all that ended by that
 -- reading or by any earlier one.

@@ -25,6 +25,6 @@ pub fn standbys_stand_for_users<D: Disk>()
 ///
 /// The moments at which operations ended, the state keeps wherever the users' keeper is home (`read` of `StandsFor`): nothing that was read later was read
 /// before them.
-pub fn crashes_leave_first_entries<D: Disk>()
+pub fn crashes_stand_for_users<D: Disk>()
     ensures { CrashesStand D.told D.state }
 {}

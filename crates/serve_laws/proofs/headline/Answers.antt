@@ -12,6 +12,7 @@ returns g c = λ old new site s o p j e.
       readings = c.readings_stand_for_operations.ensures;
       crashes = c.crashes_stand_for_operations.ensures;
       users = c.standbys_stand_for_users.ensures.copies;
+      users_crashes = c.crashes_stand_for_users.ensures;
       copies = c.copies_are_readings.ensures.copies;
       joined = c.copies_are_readings.ensures.joined;
       current = c.copies_are_readings.ensures.current;
