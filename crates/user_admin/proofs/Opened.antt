@@ -32,7 +32,7 @@ use Rattle.user_admin.specs.Spellable.{AreDescribed}
 use Rattle.user_admin.specs.Files.{FoldsTo}
 use Rattle.user_admin.specs.Journals.{IsAtHome, IsBadRecord}
 use Rattle.user_admin.specs.Histories.{Opening}
-use Rattle.user_admin.specs.Operations.{HasRead, IsFileAfter, IsFileOf, EndedBy, MayBeAtStart, ended_at}
+use Rattle.user_admin.specs.Operations.{EndedBy, HasRead, IsFileAfter, IsFileOf, MayBeAtStart, ended_at}
 use Rattle.user_admin.specs.States.{IsOfShelf, StandsFor, opening_of, recorded}
 use Rattle.user_admin.specs.Openings.{Begins, HasBadRecord, IsOpening, LeavesOpened}
 use Rattle.user_admin.proofs.Keeping.{file_by, untried}
