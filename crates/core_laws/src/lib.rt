@@ -2,7 +2,7 @@
 #![tactic(auto)]
 
 ghost use Rattle.core_laws.specs.Laws.{ChangesAreCounted, ChangesComeToOne, LimitsAreOne, MiddlesMoveFew, MovesAreFew, OpeningsAreOne, StandbysAreAdopted, StoppedAreAdopted, SyncedAreMirrored};
-ghost use Rattle.core_laws.specs.Mirrorings.{ReadingsStand};
+ghost use Rattle.core_laws.specs.Mirrorings.{CrashesStand, ReadingsStand};
 
 use dxc_disk::Disk;
 
@@ -48,4 +48,12 @@ pub fn standbys_are_adopted<D: Disk>()
 /// What a run's operations are, the state says wherever its Provisioner is home (`read` of `IsHomeAfter`), from the start on.
 pub fn readings_stand_for_operations<D: Disk>()
     ensures { ReadingsStand D.told D.state }
+{}
+
+/// Whatever moment since the start a crash came at, also while an operation used the journal: the file that it leaves stands for the changes of the first
+/// operations of the run, with all that had ended by then, and maybe for one change more, that of the operation in hand or in doubt.
+///
+/// Moments are those of the journal's disk. Each operation has one at which it had ended (`ended`); what was read behind it, was read from then on.
+pub fn crashes_stand_for_operations<D: Disk>()
+    ensures { CrashesStand D.told D.state }
 {}

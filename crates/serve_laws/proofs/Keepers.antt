@@ -70,6 +70,7 @@ module _ {D : Type 0} (told : Type 0) (state : D → DiskState) (laws : StandbyL
     users = k;
     is = refl;
     stands = x.1;
+    crashes = λ t n file few left_since. laws.users_crashes t o (entries_of ms) k.value x.1 n file few left_since;
     standby = λ t pair by within keeps along. laws.users t o (entries_of ms) k.value x.1 pair by within keeps along;
     joined = λ t certain pair line by keeps mirrors none.
         let d = k.value.journal.0 in

@@ -4,7 +4,7 @@ use Rattle.std.proofs.lemmas.Option.{IfSome_then}
 use Rattle.dxc_disk.specs.Disks.{DiskState, Leaves}
 use Rattle.dxc_model.specs.declared.entry.Entry.{Entry}
 use Rattle.dxc_model.specs.Histories.{changes_of, holder}
-use Rattle.core_laws.specs.Mirrorings.{IsBetween, StandsForFirst}
+use Rattle.core_laws.specs.Mirrorings.{EndedByReading, IsBetween, StandsForFirst}
 use Rattle.standby_link.specs.Laws.{named}
 use Rattle.standby_link.specs.Mirrored.{IsReadFrom}
 use Rattle.xc_core.specs.declared.provisioner.Provisioner.{Provisioner}
@@ -44,7 +44,8 @@ module _ {D : Type 0} (told : Type 0) (state : D → DiskState) (laws : StandbyL
         crash = images_by b h p stage;
         read = home.1.read;
         synced = home.1.synced;
-        standby = λ t pair by within keeps along. IfSome_then (named pair.standby) {P = IsReadFrom by (state p.journal.0).readings} {Q = StandsForFirst (outset_of o) (home.1.read t).operations p.doubt by} (laws.copies p.journal.0 by pair keeps along)
+        crashes = λ t at file ends left. laws.crashes t (outset_of o) (changes_of h) b p (between_is b h p stage) (home.1.read t) at file ends left;
+        standby = λ t pair by within keeps along. IfSome_then (named pair.standby) {P = IsReadFrom by (state p.journal.0).readings} {Q = StandsForFirst o.first (home.1.read t).operations p.doubt (EndedByReading (outset_of o) (home.1.read t).operations by)} (laws.copies p.journal.0 by pair keeps along)
             (λ file r. laws.readings t (outset_of o) (changes_of h) b p (between_is b h p stage) (home.1.read t) by r.place file r.is r.late (omega (arith, within, r.late)));
         joined = λ t certain line primary by mirrors none. laws.joined t p.journal.0 line primary by mirrors none (home.1.synced t certain);
         copy = λ t pair keeps current. (laws.adopted t b p (stage_is b h p stage) pair keeps (laws.synced t b p (stage_is b h p stage) pair.primary current.answered current.file)).0;

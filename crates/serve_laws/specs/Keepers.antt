@@ -14,6 +14,7 @@ use Rattle.standby_link.specs.Lines.{LineState}
 use Rattle.standby_link.specs.Mirrored.{Mirrors, ReadsAlong}
 use Rattle.standby_link.specs.Mirrors.{Pair}
 use Rattle.standby_link.specs.Moves.{mirrored}
+use Rattle.user_laws.specs.Crashes.{StandsForEntries, ended}
 use Rattle.user_laws.specs.Mirrorings.{StandsForOperations}
 
 -- It is home, and stands for the entries of the users' history; so does each file that a crash may leave of its journal, or for these and the change in doubt.
@@ -21,6 +22,9 @@ pub record IsKeeperHome {D : Type 0} (told : Type 0) (state : D → DiskState) (
   pub users : Box (UserState D) Global
   pub is : keeper ≡ Some users
   pub stands : StandsFor told state o users.value (entries_of left)
+  -- Whatever moment since the start a crash came at, also while a command was using their journal: the file that it leaves stands for the users after the first entries of
+  -- that history, with all that had ended by then, and maybe with one change more.
+  pub crashes : (t : told) (n : ℕ) (file : List ℕ) → n ≤ length (entries_of left) → (state users.value.journal.0).left_since (ended (stands.read t) n) file → StandsForEntries o (entries_of left) n file
   -- Whoever stood by, and whenever either end stopped or was lost: by its name the standby's copy of their journal is no file, or one that stands for the users after the
   -- first operations of that history, and maybe for one change more. All operations that ended by the last sync that was answered while Joined are among the first.
   pub standby : (t : told) → (pair : Pair) (by : ℕ) → length o.readings ≤ by → (0 < pair.standby.synced → KeepsUp pair) → ReadsAlong (state users.value.journal.0) pair.primary by

@@ -5,7 +5,7 @@ use Rattle.std.specs.FinMap.{len}
 use Rattle.std.proofs.lemmas.List.{length-replicate, length-take}
 use Rattle.std.proofs.lemmas.Bool.Decides.{leb_tells}
 use Rattle.dxc_num.specs.Dimensions.{Dimensions}
-use Rattle.dxc_disk.specs.Disks.{DiskState, CountsOn, IsDisk, IsSettled, IsSound, IsSynced, LeavesOnly, Looks, ReadsNoMore, ReadsOnly, Spends, files}
+use Rattle.dxc_disk.specs.Disks.{DiskState, CountsOn, IsDisk, IsSettled, IsSound, IsSynced, Leaves, LeavesOnly, Looks, ReadsNoMore, ReadsOnly, Spends, files}
 use Rattle.dxc_disk.proofs.DiskSteps.{goes_on, no_more_synced, sound_on, spends_more, spends_on}
 use Rattle.dxc_disk.proofs.LookSteps.{looks_settled}
 use Rattle.dxc_disk.proofs.ReadingSteps.{files_on, only_as, reads_last}
@@ -32,11 +32,13 @@ use Rattle.user_admin.specs.Spellable.{AreDescribed}
 use Rattle.user_admin.specs.Files.{FoldsTo}
 use Rattle.user_admin.specs.Journals.{IsAtHome, IsBadRecord}
 use Rattle.user_admin.specs.Histories.{Opening}
-use Rattle.user_admin.specs.Operations.{HasRead, IsFileOf, MayBeAtStart}
+use Rattle.user_admin.specs.Operations.{EndedBy, HasRead, IsFileAfter, IsFileOf, MayBeAtStart, ended_at}
 use Rattle.user_admin.specs.States.{IsOfShelf, StandsFor, opening_of, recorded}
 use Rattle.user_admin.specs.Openings.{Begins, HasBadRecord, IsOpening, LeavesOpened}
 use Rattle.user_admin.proofs.Keeping.{file_by, untried}
+use Rattle.user_admin.proofs.Ending.{holds_all, none_ended}
 use Rattle.user_admin.proofs.Folding.{fold_spellable}
+use Rattle.user_admin.proofs.Operating.{since_end}
 use Rattle.user_admin.proofs.Standing.{paid_counted, stands_at}
 
 le_or_lt : (a b : ℕ) → (a ≤ b) ⊎ (b < a)
@@ -245,8 +247,13 @@ module _ {D : Type 0} (told : Type 0) (state : D → DiskState) (shelf : Content
   was_synced : told → IsSynced b
   was_synced x = ⊎_elim (λ n. (new x n).synced) (λ not. (old x not).synced) (new_or_old a.reads_as)
 
-  read_opened : told → HasRead opening [] (state s.journal.0)
-  read_opened x =
+  reads_all : (x : told) → files (state s.journal.0).readings ≡ files a.readings ++ (files (start_read x).more ++ [])
+  reads_all x =
+      let only = start_read x in
+      ap files (no_more x).readings ∙ (ap files only.readings ∙ (files_on a.readings only.more ∙ ap (λ (fs : List (List ℕ)). files a.readings ++ fs) (sym (append-nil (files only.more)))))
+
+  read_opened : told → Leaves (state s.journal.0) (IsFileAfter opening []) → HasRead opening [] (state s.journal.0)
+  read_opened x images =
       let only = start_read x in
       record {
         started = files only.more;
@@ -254,8 +261,13 @@ module _ {D : Type 0} (told : Type 0) (state : D → DiskState) (shelf : Content
         start = (subst (MayBeAtStart opening) (sym (reads_last a (was_disk x))) (first_read x), only.each);
         are = tt;
         entered = refl;
-        readings = ap files (no_more x).readings ∙ (ap files only.readings ∙ (files_on a.readings only.more ∙ ap (λ (fs : List (List ℕ)). files a.readings ++ fs) (sym (append-nil (files only.more)))));
+        readings = reads_all x;
         synced = inl (no_more_synced b (state s.journal.0) (no_more x) (was_synced x));
+        begun = (state s.journal.0).moment;
+        in_order = omega arith;
+        since = λ n. since_end (λ r. ended_at (state s.journal.0).moment [] n ≤ r.at) (state s.journal.0) (files a.readings) (files only.more) [] n (omega arith) (reads_all x);
+        left = λ n file left. holds_all opening [] file (EndedBy (state s.journal.0).moment [] (ended_at (state s.journal.0).moment [] n))
+            (images file ((disk_now x).only_now file (subst (λ (t : ℕ). (state s.journal.0).left_since t file) (none_ended (state s.journal.0).moment n) left)));
       }
 
   stands_opened : StandsFor told state opening s []

@@ -4,9 +4,8 @@ use Rattle.std.specs.Prelude.{min, nat_le}
 use Rattle.std.specs.FinMap.{len}
 use Rattle.dxc_causes.specs.Causes.{Rose, last}
 use Rattle.dxc_num.specs.Dimensions.{Dimensions}
-use Rattle.dxc_disk.specs.Disks.{CountsOn, DiskState, IsDisk, IsSpent, IsSynced, LeavesOnly, Spends}
+use Rattle.dxc_disk.specs.Disks.{CountsOn, DiskState, IsDisk, IsSpent, IsSynced, Leaves, LeavesOnly, Spends}
 use Rattle.dxc_disk.proofs.DiskSteps.{spends_none}
-use Rattle.dxc_disk.proofs.ReadingSteps.{all_read, only_none}
 use Rattle.dxc_model.specs.declared.cause.Cause.{Cause}
 use Rattle.dxc_model.specs.declared.cause.Cause.TheVariants.{BadIdentity, DiskFault, LastOfClassS, UnknownUser, UserThere, UsersFull}
 use Rattle.dxc_model.specs.declared.user.Class.{Class}
@@ -143,12 +142,16 @@ module _ {D : Type 0} (told : Type 0) (state : D → DiskState) (o : Opening) (s
   pub after_doubt : (file : List ℕ) → IsOldOrDoubted s.journal.1.shape (shelf_users o.shelf) (users_after o h) doubt file → IsFileAfter o h file
   after_doubt file is = ⊎_elim (λ old. inl (as_old file old)) (λ more. inr (by_history file more)) is
 
-  pub stands_at : s.lists.value.users ≡ users_after o h → IsLegal o h → min (o.faults + failures h) last ≤ (state s.journal.0).faults → SpendsOf o (room_in h) (state s.journal.0) → IsPaid o h → AreSpellable (shelf_users o.shelf) (users_after o h) → (told → HasRead o h (state s.journal.0)) → StandsFor told state o s h
+  images_after : told → Leaves (state s.journal.0) (IsFileAfter o h)
+  images_after t file image = after_doubt file (home_images told (state s.journal.0) s.journal.1 (shelf_users o.shelf) (users_after o h) doubt home t whole file image)
+
+  pub stands_at : s.lists.value.users ≡ users_after o h → IsLegal o h → min (o.faults + failures h) last ≤ (state s.journal.0).faults → SpendsOf o (room_in h) (state s.journal.0) → IsPaid o h → AreSpellable (shelf_users o.shelf) (users_after o h)
+      → (told → Leaves (state s.journal.0) (IsFileAfter o h) → HasRead o h (state s.journal.0)) → StandsFor told state o s h
   stands_at users legal faults spends paid spellable read = record {
     users = users;
     legal = legal;
     reads = λ t. ⊎_elim (λ old. inl (as_old (state s.journal.0).reads_as old)) (λ more. inr (by_history (state s.journal.0).reads_as more.0, more.1)) (home_reads told (state s.journal.0) s.journal.1 (shelf_users o.shelf) (users_after o h) doubt home t whole (disk t));
-    images = λ t file image. after_doubt file (home_images told (state s.journal.0) s.journal.1 (shelf_users o.shelf) (users_after o h) doubt home t whole file image);
+    images = images_after;
     faults = faults;
     spends = spends;
     paid = paid;
@@ -158,14 +161,14 @@ module _ {D : Type 0} (told : Type 0) (state : D → DiskState) (o : Opening) (s
     doubt = doubt;
     doubted = doubted;
     home = home;
-    read = read;
+    read = λ t. read t (images_after t);
   }
 
 -- the operation's entry
 pub entered : {D : Type 0} (told : Type 0) (state : D → DiskState) (o : Opening) (s : UserState D) (h : List UserEntry) (e : UserEntry) → (told → IsDisk (state s.journal.0)) → IsOfShelf o s → IsWhole s.journal.1 → (doubt : Option UserChange) → ((c : UserChange) → doubt ≡ Some c → IsInDoubt o (h ++ e ∷ []) c)
     → IsAtHome told (state s.journal.0) s.journal.1 (shelf_users o.shelf) (after (change_in e.outcome) (users_after o h)) doubt → s.lists.value.users ≡ after (change_in e.outcome) (users_after o h) → IsLegal o h → MayCome o.shelf.sid e.op (users_after o h) e.outcome
     → min (o.faults + failures (h ++ e ∷ [])) last ≤ (state s.journal.0).faults → SpendsOf o (room_in (h ++ e ∷ [])) (state s.journal.0) → CountsOn (state s.journal.0) → AreSpellable (shelf_users o.shelf) (after (change_in e.outcome) (users_after o h))
-    → (told → HasRead o (h ++ e ∷ []) (state s.journal.0)) → StandsFor told state o s (h ++ e ∷ [])
+    → (told → Leaves (state s.journal.0) (IsFileAfter o (h ++ e ∷ [])) → HasRead o (h ++ e ∷ []) (state s.journal.0)) → StandsFor told state o s (h ++ e ∷ [])
 entered told state o s h e disk of_shelf whole doubt doubted home users legal may faults spends counts spellable read =
     let more = sym (users_more o h e) in
     stands_at told state o s (h ++ e ∷ []) disk of_shelf whole doubt doubted (subst (λ (m : Users). IsAtHome told (state s.journal.0) s.journal.1 (shelf_users o.shelf) m doubt) more home)
@@ -248,15 +251,18 @@ module _ {D : Type 0} (told : Type 0) (state : D → DiskState) (o : Opening) (s
   reads_after : told → IsFileAfter o h (state s.journal.0).reads_as
   reads_after x = ⊎_elim (λ old. inl old) (λ more. inr more.0) (st.reads x)
 
-  -- an operation that made no call and no change
-  read_none : (told → IsDisk (state s.journal.0)) → (e : UserEntry) → change_in e.outcome ≡ [] → told → HasRead o (h ++ e ∷ []) (state s.journal.0)
-  read_none disk e none x = read_more o h (state s.journal.0) (disk x) (st.read x) (state s.journal.0) e (only_none (MayBe o h e.op) (state s.journal.0) (state s.journal.0) refl) (reads_after x)
-      (⊎_elim (λ synced. inl synced) (λ doubt. inr (doubt.0, doubt_more o h e doubt.0 none doubt.1)) (st.read x).synced)
-
   -- one that made calls
-  read_calls : (told → IsDisk (state s.journal.0)) → (new : DiskState) → (told → IsDisk new) → (e : UserEntry) → (told → LeavesOnly (state s.journal.0) new (MayBe o h e.op)) → (told → IsSynced new ⊎ ((c : UserChange) × IsInDoubt o (h ++ e ∷ []) c)) → told → HasRead o (h ++ e ∷ []) new
-  read_calls disk new disk_now e left synced x = read_more o h (state s.journal.0) (disk x) (st.read x) new e
-      (record { more = (left x).on.more; readings = (left x).on.readings; each = all_read (MayBe o h e.op) (state s.journal.0) new (disk_now x) (left x) }) (reads_after x) (synced x)
+  read_calls : (told → IsDisk (state s.journal.0)) → (new : DiskState) → (told → IsDisk new) → (e : UserEntry) → (told → LeavesOnly (state s.journal.0) new (MayBe o h e.op)) → (told → IsSynced new ⊎ ((c : UserChange) × IsInDoubt o (h ++ e ∷ []) c))
+      → told → Leaves new (IsFileAfter o (h ++ e ∷ [])) → HasRead o (h ++ e ∷ []) new
+  read_calls disk new disk_now e left synced x images = read_more o h (state s.journal.0) (disk x) (st.read x) new (disk_now x) e (left x) (reads_after x) images (synced x)
+
+  -- no call
+  pub none_left : told → IsDisk (state s.journal.0) → (op : UserOp) → LeavesOnly (state s.journal.0) (state s.journal.0) (MayBe o h op)
+  none_left x disk op = none_only (state s.journal.0) (MayBe o h op) disk (λ file image. inl (st.images x file image))
+
+  -- an operation that made none, and no change
+  read_none : (told → IsDisk (state s.journal.0)) → (e : UserEntry) → change_in e.outcome ≡ [] → told → Leaves (state s.journal.0) (IsFileAfter o (h ++ e ∷ [])) → HasRead o (h ++ e ∷ []) (state s.journal.0)
+  read_none disk e none = read_calls disk (state s.journal.0) disk e (λ x. none_left x (disk x) e.op) (λ x. ⊎_elim (λ synced. inl synced) (λ doubt. inr (doubt.0, doubt_more o h e doubt.0 none doubt.1)) (st.read x).synced)
 
   pub granted_at : (op : UserOp) (c : UserChange) → Grants s.sid op s.lists.value.users c → Grants o.shelf.sid op (users_after o h) c
   granted_at op c granted = subst (λ (w : List ℕ × Users). Grants w.0 op w.1 c) (λ i. (st.of_shelf.sid i, st.users i)) granted
@@ -283,11 +289,11 @@ module _ {D : Type 0} (told : Type 0) (state : D → DiskState) (o : Opening) (s
         (users ∙ st.users) st.legal
         (subst (λ (j : D × Book). min (o.faults + failures h) last ≤ (state j.0).faults) (sym journal) st.faults)
         (subst (λ (j : D × Book). SpendsOf o (room_in h) (state j.0)) (sym journal) st.spends) st.paid st.spellable
-        (λ x. subst (λ (j : D × Book). HasRead o h (state j.0)) (sym journal) (st.read x))
+        (λ x images. subst (λ (j : D × Book). HasRead o h (state j.0)) (sym journal) (st.read x))
 
     -- no call was made for it
-    read_still : (e : UserEntry) → change_in e.outcome ≡ [] → t.journal ≡ s.journal → told → HasRead o (h ++ e ∷ []) (state t.journal.0)
-    read_still e none journal x = subst (λ (j : D × Book). HasRead o (h ++ e ∷ []) (state j.0)) (sym journal) (read_none (λ y. subst (λ (j : D × Book). IsDisk (state j.0)) journal (disk y)) e none x)
+    read_still : (e : UserEntry) → change_in e.outcome ≡ [] → t.journal ≡ s.journal → told → Leaves (state t.journal.0) (IsFileAfter o (h ++ e ∷ [])) → HasRead o (h ++ e ∷ []) (state t.journal.0)
+    read_still e none journal x = subst (λ (j : D × Book). Leaves (state j.0) (IsFileAfter o (h ++ e ∷ [])) → HasRead o (h ++ e ∷ []) (state j.0)) (sym journal) (read_none (λ y. subst (λ (j : D × Book). IsDisk (state j.0)) journal (disk y)) e none x)
 
     -- the users deny it
     pub was_denied : (n : ℕ) (op : UserOp) (q : Cause) → Refuses op s.lists.value.users q → t.lists.value.users ≡ s.lists.value.users → t.journal ≡ s.journal → StandsFor told state o t (h ++ entry n op (refused q) ∷ [])
@@ -356,10 +362,6 @@ module _ {D : Type 0} (told : Type 0) (state : D → DiskState) (o : Opening) (s
       (λ more. inr (c, granted_at op c is, subst (λ (d : Dimensions). IsFileOn d (shelf_users o.shelf) (effect c (users_after o h)) file) st.of_shelf.shape more))
       one)
       (subst (λ (w : Users × Users). LeavesOnly (state s.journal.0) new (IsOldOrOneMore s.journal.1.shape w.0 w.1 st.doubt c)) (λ i. (st.of_shelf.described i, st.users i)) (left st.doubt (home_at st.doubt st.home)))
-
-  -- no call
-  pub none_left : told → IsDisk (state s.journal.0) → (op : UserOp) → LeavesOnly (state s.journal.0) (state s.journal.0) (MayBe o h op)
-  none_left x disk op = none_only (state s.journal.0) (MayBe o h op) disk (λ file image. inl (st.images x file image))
 
 -- An entry that changes nothing, and several.
 module _ {D : Type 0} (told : Type 0) (state : D → DiskState) (o : Opening) (s : UserState D) (disk : told → IsDisk (state s.journal.0)) (counts : CountsOn (state s.journal.0)) where

@@ -11,10 +11,10 @@ use Rattle.standby_link.proofs.ActSteps.{get_front}
 use Rattle.user_admin.specs.declared.op.UserEntry.{UserEntry}
 use Rattle.user_admin.specs.declared.state.UserState.{UserState}
 use Rattle.user_admin.specs.Histories.{Opening}
-use Rattle.user_admin.specs.Operations.{AreOperations, HasRead, IsFileAfter, MayBe, MayBeAtStart, Operation, entries_in, readings_in}
+use Rattle.user_admin.specs.Operations.{AreOperations, HasRead, IsFileAfter, MayBe, MayBeAtStart, Operation, StandsAt, entries_in, readings_in}
 use Rattle.user_admin.specs.States.{StandsFor}
 use Rattle.user_admin.proofs.Operating.{read_so_far}
-use Rattle.user_laws.specs.Mirrorings.{CopiesStand, ReadingsStand, StandsAt, StandsForOperations, readings_before}
+use Rattle.user_laws.specs.Mirrorings.{CopiesStand, ReadingsStand, StandsForOperations, readings_before}
 
 -- what holds of all holds of each
 all_at : {A : Type 0} (P : A → Type 0) (xs : List A) (n : ℕ) (x : A) → AllByRecursion P xs → slice_get xs n ≡ Some x → P x

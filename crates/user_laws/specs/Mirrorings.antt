@@ -1,5 +1,5 @@
 -- What a file stands for that the users' journal's disk has read, by the operations in which it read, and so what a standby's copy stands for.
-use Rattle.std.specs.Prelude.{◌⊎◌, ℕ, ◌+◌, ◌≤◌, ◌<◌, List, length, take, slice_get, Option, Some, None, IfSome}
+use Rattle.std.specs.Prelude.{◌⊎◌, ℕ, ◌+◌, ◌≤◌, ◌<◌, List, length, take, IfSome}
 use Rattle.dxc_disk.specs.Disks.{DiskState}
 use Rattle.standby_link.specs.Laws.{KeepsUp, named}
 use Rattle.standby_link.specs.Mirrored.{IsReadFrom, ReadsAlong}
@@ -7,20 +7,8 @@ use Rattle.standby_link.specs.Mirrors.{Pair}
 use Rattle.user_admin.specs.declared.op.UserEntry.{UserEntry}
 use Rattle.user_admin.specs.declared.state.UserState.{UserState}
 use Rattle.user_admin.specs.Histories.{Opening}
-use Rattle.user_admin.specs.Operations.{HasRead, IsFileAfter, MayBe, MayBeAtStart, Operation, entries_in, readings_in}
+use Rattle.user_admin.specs.Operations.{HasRead, MayBeAtStart, StandsForFirst, readings_in}
 use Rattle.user_admin.specs.States.{StandsFor}
-
--- a file stands for the users before this operation, or with its change; or after all operations, with the change in doubt or not
-abbrev pub StandsAt : Opening → List UserEntry → Option Operation → List ℕ → Type 0
-StandsAt o h None = IsFileAfter o h
-StandsAt o h (Some p) = MayBe o h p.entry.op
-
--- A file stands for the users after the first operations, and maybe with one change more. Among these are all that ended by the time when the disk had so many
--- readings, of which so many were from before the first of them.
-pub record StandsForFirst (o : Opening) (ps : List Operation) (before by : ℕ) (file : List ℕ) : Type 0 where
-  pub number : ℕ
-  pub holds : (n : ℕ) → n ≤ length ps → before + length (readings_in (take n ps)) ≤ by → n ≤ number
-  pub stands : StandsAt o (entries_in (take number ps)) (slice_get ps number) file
 
 -- It was read in the start, before any operation: the users at the opening, or a file in which no journal was made yet. No operation had ended by that time.
 pub record StandsForNone (o : Opening) (before by : ℕ) (file : List ℕ) : Type 0 where
@@ -32,8 +20,12 @@ module _ {o : Opening} {h : List UserEntry} {s : DiskState} (x : HasRead o h s) 
   abbrev pub readings_before : ℕ
   readings_before = length o.readings + length x.started
 
+  -- the first n had ended by the time when it had so many readings
+  abbrev pub EndedByReading : ℕ → ℕ → Type 0
+  EndedByReading by n = readings_before + length (readings_in (take n x.operations)) ≤ by
+
   abbrev pub StandsForOperations : ℕ → List ℕ → Type 0
-  StandsForOperations by file = StandsForNone o readings_before by file ⊎ StandsForFirst o x.operations readings_before by file
+  StandsForOperations by file = StandsForNone o readings_before by file ⊎ StandsForFirst o x.operations (EndedByReading by) file
 
 -- Where the users' keeper is home, each file that its disk read since it was handed out stands for the first operations of the history, with all that ended by that
 -- reading or by any earlier one.

@@ -1,6 +1,8 @@
-//! What holds of a standby's copy of the users' journal, as the contract of a function without parameters.
+//! What a crash at any moment of a run might have left of the users' journal, and what holds of a standby's copy of it, as contracts of functions
+//! without parameters.
 #![tactic(auto)]
 
+ghost use Rattle.user_laws.specs.Crashes.{CrashesStand};
 ghost use Rattle.user_laws.specs.Mirrorings.{CopiesStand, ReadingsStand};
 
 use dxc_disk::Disk;
@@ -15,4 +17,14 @@ use dxc_disk::Disk;
 pub fn standbys_stand_for_users<D: Disk>()
     ensures stands { ReadingsStand D.told D.state }
     ensures copies { CopiesStand D.told D.state }
+{}
+
+/// At whatever moment since the start a crash came, also in the middle of a change: the file that it leaves stands for the users after the first entries
+/// of their history, and maybe for one change more, that of the next entry or one in doubt. All that had ended by then are among the first, and so all
+/// users' changes that were acknowledged.
+///
+/// The moments at which operations ended, the state keeps wherever the users' keeper is home (`read` of `StandsFor`): nothing that was read later was read
+/// before them.
+pub fn crashes_stand_for_users<D: Disk>()
+    ensures { CrashesStand D.told D.state }
 {}

@@ -176,7 +176,7 @@ module _ {D : Type 0} (told : Type 0) (state : D → DiskState) where
   read_noted o own h q p plan x left k =
       let l = left k in
       read_more (outset_of o) (changes_of h) x.out.now (state q.journal.0) (state p.journal.0) q.doubt (change plan.op) l.0 l.1
-      (doubted_or_more x.out.now q.doubt plan.op (state q.journal.0).reads_as (home_images told (state q.journal.0) q.journal.1 x.out.now q.doubt (sym x.may.home.past.shape) x.may.home.journal k x.may.home.past.book (state q.journal.0).reads_as l.0.reads_now))
+      (λ c image. doubted_or_more x.out.now q.doubt plan.op c (home_images told (state q.journal.0) q.journal.1 x.out.now q.doubt (sym x.may.home.past.shape) x.may.home.journal k x.may.home.past.book c image))
       l.2 (x.out.read k)
 
   -- the record is in the journal

@@ -252,8 +252,8 @@ module _ {D : Type 0} (told : Type 0) (state : D → DiskState) (shelf : Content
     last_is k = record { whole = now_whole; still = now_still; comes = listed_comes k }
 
     -- what its disk has read since it was handed out
-    begun_read : (k : told) → IsDisk a → HasRead (record { past = first; readings = files a.readings }) [] first (state j.0)
-    begun_read k first_disk = start_read shelf first a b (state j.0) book first_disk (r.no_more k) j.1.head (listed j.1 (state j.0).reads_as) (sym r.shape ∙ table_shape) (ops, listed_comes k)
+    begun_read : (k : told) → IsDisk a × IsDisk (state j.0) → HasRead (record { past = first; readings = files a.readings }) [] first (state j.0)
+    begun_read k disks = start_read shelf first a b (state j.0) book disks.0 disks.1 (r.no_more k) j.1.head (listed j.1 (state j.0).reads_as) (sym r.shape ∙ table_shape) (ops, listed_comes k)
         (λ not. (subst (λ (w : Head × List (List ℕ)). Stands shelf.shape w.0 w.1 a.reads_as) (λ i. (ap (λ (y : Book). y.head) (sym r.same) i, listed (sym r.same i) (sym ((r.looks k).same) i))) (r.old k not).finds.1, r.old k not)) (r.new k)
 
     fold_home : IsFoldOf told shelf.shape (recorded j.1 (state j.0).reads_as) first
@@ -303,7 +303,7 @@ module _ {D : Type 0} (told : Type 0) (state : D → DiskState) (shelf : Content
 
       -- the state that it is home in, which keeps it as its origin
       module _ (origin : Origin D) (d : Boxed D) (behind : d.value.p ≡ at_home) (table_kept : origin.table.value ≡ t) (provisioner_kept : origin.provisioner.value ≡ d.value.p) (last_kept : origin.last.value ≡ x.last)
-          (handed_kept : origin.disk.value ≡ x.handed.value) (first_disk : told → IsDisk a) (stage : IsReadyOrHalted told state first (began due ++ []) at_home) where
+          (handed_kept : origin.disk.value ≡ x.handed.value) (disks : told → IsDisk a × IsDisk (state j.0)) (stage : IsReadyOrHalted told state first (began due ++ []) at_home) where
         abbrev begun : State D
         begun = record { table = t; reports = x.reports; home = In d; origin = origin }
 
@@ -328,7 +328,7 @@ module _ {D : Type 0} (told : Type 0) (state : D → DiskState) (shelf : Content
               doubt = λ op asked. absurd cc;
               faults = let none = began_faults due in omega (arith, none);
               spends = λ enough. record { room = omega arith; margin = omega arith };
-              read = λ k. subst (λ (w : List (List ℕ) × List Change). HasRead (record { past = first; readings = w.0 }) w.1 first (state j.0)) (λ i. (sym r.handed i, sym (began_changes due) i)) (begun_read k (first_disk k));
+              read = λ k. subst (λ (w : List (List ℕ) × List Change). HasRead (record { past = first; readings = w.0 }) w.1 first (state j.0)) (λ i. (sym r.handed i, sym (began_changes due) i)) (begun_read k (disks k));
               synced = λ k clear. no_more_synced b (state j.0) (r.no_more k) (was_synced k);
             }),
           );
@@ -358,18 +358,18 @@ module _ {D : Type 0} (told : Type 0) (state : D → DiskState) (shelf : Content
     home_joined : IsHome told state (first (length v.mover.log)) (at_home (length v.mover.log) false v)
     home_joined = record { ready = refl; past = past_read (length v.mover.log) false v few_joined; registers = rest; switches = refl; journal = journal_home (length v.mover.log) }
 
-    pub opened : (fabric : FabricId) (n : ℕ) (origin : Origin D) (d : Boxed D) → v.fabric ≡ fabric → n ≡ length v.mover.log → d.value.p ≡ at_home n false v → origin.table.value ≡ t → origin.provisioner.value ≡ d.value.p → origin.last.value ≡ x.last → origin.disk.value ≡ x.handed.value → (told → IsDisk a)
+    pub opened : (fabric : FabricId) (n : ℕ) (origin : Origin D) (d : Boxed D) → v.fabric ≡ fabric → n ≡ length v.mover.log → d.value.p ≡ at_home n false v → origin.table.value ≡ t → origin.provisioner.value ≡ d.value.p → origin.last.value ≡ x.last → origin.disk.value ≡ x.handed.value → (told → IsDisk a × IsDisk (state j.0))
         → IsOpening told a.reads_as shelf fabric (opening_of state (record { table = t; reports = x.reports; home = In d; origin = origin })) × Begins told state (record { table = t; reports = x.reports; home = In d; origin = origin })
-    opened fabric n origin d own spent behind table_kept provisioner_kept last_kept handed_kept first_disk =
+    opened fabric n origin d own spent behind table_kept provisioner_kept last_kept handed_kept disks =
         let m = length v.mover.log in
         let as_made : d.value.p ≡ at_home m false v = behind ∙ ap (λ (k : ℕ). at_home k false v) spent in
         let limits : IsInLimits shelf.shape = subst IsInLimits (sym rest.shape ∙ matrix_shape) rest.sized.shape in
         let stage : IsReadyOrHalted told state (first m) (began false ++ []) (at_home m false v) = inl (home_joined, began_unstopped) in
         let s : State D = record { table = t; reports = x.reports; home = In d; origin = origin } in
-        let is : opening_of state s ≡ opening m false v = opening_is m false v origin d as_made table_kept provisioner_kept last_kept handed_kept first_disk stage in
+        let is : opening_of state s ≡ opening m false v = opening_is m false v origin d as_made table_kept provisioner_kept last_kept handed_kept disks stage in
         let o : IsOpening told a.reads_as shelf v.fabric (opening m false v) = subst (λ (k : ℕ). Opens told a.reads_as shelf v.fabric false k (opening m false v)) joins (opens m false v limits) in (
           subst (λ (w : FabricId × Opening). IsOpening told a.reads_as shelf w.0 w.1) (λ i. (own i, sym is i)) o,
-          begins m false v origin d as_made table_kept provisioner_kept last_kept handed_kept first_disk stage,
+          begins m false v origin d as_made table_kept provisioner_kept last_kept handed_kept disks stage,
         )
 
 -- the state that was made of what was read

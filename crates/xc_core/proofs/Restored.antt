@@ -79,7 +79,7 @@ module _ {D : Type 0} (told : Type 0) (state : D → DiskState) (o : Opening) (o
   read_settled : told → HasRead (outset_of o) (changes_of h) x.out.now (state m.journal.0)
   read_settled k = elim x.stage [
     | inl a ↦ read_more (outset_of o) (changes_of h) x.out.now (state p.journal.0) (state m.journal.0) p.doubt restart (disk p.journal.0 k) (disk m.journal.0 k)
-        (home_images told (state p.journal.0) p.journal.1 x.out.now p.doubt (sym a.0.past.shape) a.0.journal k a.0.past.book (state p.journal.0).reads_as (disk p.journal.0 k).reads_now) (left k x.out.now a.0) (x.out.read k)
+        (home_images told (state p.journal.0) p.journal.1 x.out.now p.doubt (sym a.0.past.shape) a.0.journal k a.0.past.book) (left k x.out.now a.0) (x.out.read k)
     | inr b ↦ subst (λ (y : Provisioner D). HasRead (outset_of o) (changes_of h) x.out.now (state y.journal.0)) (sym (same b.0.halted)) (x.out.read k)
   ]
 
@@ -105,7 +105,7 @@ module _ {D : Type 0} (told : Type 0) (state : D → DiskState) (o : Opening) (o
 
       read_recovered : told → HasRead (outset_of o) (changes_of h) x.out.now (state q.journal.0)
       read_recovered k = read_more (outset_of o) (changes_of h) x.out.now (state m.journal.0) (state q.journal.0) m.doubt restart (disk m.journal.0 k) (disk q.journal.0 k)
-          (halted_images told state x.out.now m halted_now k (state m.journal.0).reads_as (disk m.journal.0 k).reads_now) (then_left k) (read_settled k)
+          (halted_images told state x.out.now m halted_now k) (then_left k) (read_settled k)
 
       all_kept : StillDoubts p q
       all_kept y here = let k = kept y (sym same_doubt ∙ here) in (k.0, λ marked. k.1 halted_now.halted)
