@@ -5,7 +5,9 @@ ghost use Rattle.dxc_jobs.specs.Offices.{office};
 ghost use Rattle.serve_laws.specs.Headline.{IsHeadline};
 ghost use Rattle.serve_laws.specs.Jobs.{means, world};
 
-use core_laws::{crashes_stand_for_operations, readings_stand_for_operations, standbys_are_adopted};
+use core_laws::{
+    crashes_stand_for_operations, readings_stand_for_operations, standbys_are_adopted,
+};
 use craft_session::Timestamps;
 use dxc_disk::Disk;
 use dxc_leaving::LetGo;
