@@ -1,2 +1,2 @@
 /// SHA-256 of the sources that the program is proved from, this file left out, in hexadecimal. `tools/release` writes it.
-pub const SOURCES: &str = "b1a6af0aef92b8806727dc2970c2c9a86d877d97cba832252a3e4fc942385f0e";
+pub const SOURCES: &str = "6d51917daca53b8bb97c16289504f25a63e40530acd699be6ed142b0cd9b0a01";
