@@ -162,17 +162,17 @@ module _ (w : World) (synced : SyncedAreMirrored w.disk.told w.disk.state) (adop
 
     -- and what links had been written at an earlier moment
     module _ (z : TableState (Option (Lying w)) View) (m : IsEarlier w e.key lefts z) (k : ℕ) (lt : k < 16) (v : View) (at : get_elem? z.views (k + 1) ≡ some_of v) where
-      abbrev was : WasThen w s o excused by_turns.turns h ss z
-      was = was_then z m excused ss by_turns.turns by_turns.played
+      abbrev moment : WasThen w s o excused by_turns.turns h ss z
+      moment = was_then z m excused ss by_turns.turns by_turns.played
 
-      links_then : w.office.link.told → let x = (served_then w s o p has.turnstiles jobs lefts sixteen has.each ran k lt).served in WereWrittenThen (moment_at w s o k v.seen ((passes_at was.earlier was.later was.whole).sessions k)) w.office.link.state (links_of w x.job x.done x.left x.ran) (ss k)
+      links_then : w.office.link.told → let x = (served_then w s o p has.turnstiles jobs lefts sixteen has.each ran k lt).served in WereWrittenThen (moment_at w s o k v.seen ((passes_at moment.earlier moment.later moment.whole).sessions k)) w.office.link.state (links_of w x.job x.done x.left x.ran) (ss k)
       unfolding was_then
       links_then told =
           let y = served_then w s o p has.turnstiles jobs lefts sixteen has.each ran k lt in
           let more = m.sees_on k y.served.left v y.served.left_is at in
           let f = (m.allowed.each (k + 1) v at).front in
-          let then_passed = passes_at was.earlier was.later was.whole in
-          y.by_then (moment_at w s o k v.seen (then_passed.sessions k)) (began o.due ++ was.earlier)
+          let then_passed = passes_at moment.earlier moment.later moment.whole in
+          y.by_then (moment_at w s o k v.seen (then_passed.sessions k)) (began o.due ++ moment.earlier)
           (record {
             tells = told;
             stamps = λ x there. there;
