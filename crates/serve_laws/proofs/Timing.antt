@@ -153,15 +153,28 @@ module _ (told clock_told : Type 0) (stamped : Stamp → Type 0) (l : Language R
         }
 
     -- or it had seen more
-    was_since : stamped s → (g : Gv) (d : List Gv) → s.seat.seen ≡ m.seen ++ g ∷ d → WasWrittenSince m n
-    was_since there g d is = record { stamp = s; stamped = a.stamps s there; place = x.at.1 ∙ sym a.place; follows = x.follows; next = g; more = d; sees_on = is }
+    was_since : stamped s → (g : Gv) (d : List Gv) → s.seat.seen ≡ m.seen ++ g ∷ d → WasWrittenSince m k j n
+    was_since there g d is =
+        let went = x.goes_on.written a.tells in
+        record {
+          stamp = s;
+          stamped = a.stamps s there;
+          place = x.at.1 ∙ sym a.place;
+          same_link = x.exchanged.lasting;
+          since_it_came = (x.out, x.exchanged.written a.tells);
+          before_it_was_left = (x.sent ++ went.0, went.1 ∙ append_assoc s.link.written x.sent went.0);
+          follows = x.follows;
+          next = g;
+          more = d;
+          sees_on = is;
+        }
 
-    by_seen : stamped s → (since : List Gv) → Either s.seat.seen since m.seen more → WasWrittenSince m n ⊎ HadSaid n
+    by_seen : stamped s → (since : List Gv) → Either s.seat.seen since m.seen more → WasWrittenSince m k j n ⊎ HadSaid n
     by_seen there since (first_shorter d p q) = inr (had_said d p)
     by_seen there since (first_longer [] p q) = inr (had_said [] (sym (p ∙ append-nil m.seen) ∙ sym (append-nil s.seat.seen)))
     by_seen there since (first_longer (g ∷ d) p q) = inl (was_since there g d p)
 
-    of_byte : stamped s → WasWrittenSince m n ⊎ HadSaid n
+    of_byte : stamped s → WasWrittenSince m k j n ⊎ HadSaid n
     of_byte there =
         let x2 = x.goes_on.sees_on x.walk.history x.consulted.history x.saw x.consulted.saw in
         let on : seen ≡ s.seat.seen ++ codes x2.entries = saw_on b.opening s.seat.seen seen x.walk.history x2.entries x.saw x2.saw in
@@ -172,10 +185,10 @@ module _ (told clock_told : Type 0) (stamped : Stamp → Type 0) (l : Language R
     count : length j.written ≡ length k.written + length out
     count = ap length all ∙ length-append k.written out
 
-    each : (n : ℕ) → length k.written ≤ n → n < length k.written + length out → WasWrittenSince m n ⊎ HadSaid n
+    each : (n : ℕ) → length k.written ≤ n → n < length k.written + length out → WasWrittenSince m k j n ⊎ HadSaid n
     each n from below = let y = timely a.tells n from (let e = count in omega (arith, e, below)) in of_byte n y.0 y.2 y.1
 
-    by_parts : Parted (WasWrittenSince m) HadSaid (length k.written) (length out) → WasWrittenThen m ss k j
+    by_parts : Parted (WasWrittenSince m k j) HadSaid (length k.written) (length out) → WasWrittenThen m ss k j
     by_parts (all_since since) = record {
       by_then = [];
       since = out;
@@ -192,4 +205,4 @@ module _ (told clock_told : Type 0) (stamped : Stamp → Type 0) (l : Language R
     }
 
     pub was_written_then : WasWrittenThen m ss k j
-    was_written_then = by_parts (parted (WasWrittenSince m) HadSaid (length k.written) (length out) each)
+    was_written_then = by_parts (parted (WasWrittenSince m k j) HadSaid (length k.written) (length out) each)
