@@ -2,7 +2,7 @@
 #![tactic(auto)]
 
 ghost use Rattle.core_laws.specs.Laws.{ChangesAreCounted, ChangesComeToOne, LimitsAreOne, MiddlesMoveFew, MovesAreFew, OpeningsAreOne, StandbysAreAdopted, StoppedAreAdopted, SyncedAreMirrored};
-ghost use Rattle.core_laws.specs.Mirrorings.{CopiesStand, StandbysStand, StandbysStandBehind, StandbysStandSince, StartsAreCommands};
+ghost use Rattle.core_laws.specs.Mirrorings.{CrashesStand, ReadingsStand};
 
 use dxc_disk::Disk;
 
@@ -38,29 +38,22 @@ pub fn standbys_are_adopted<D: Disk>()
     ensures adopted { StandbysAreAdopted D.told D.state }
 {}
 
-/// From its first Sync on a standby's file stands for the changes of the first of the primary's commands, and maybe for one change more, that of the
-/// operation in hand or in doubt. All commands that ended by the last sync which the primary answered while Joined are among the first, and so all that
-/// were acknowledged while Joined. This holds whenever the primary stopped, in the middle of a command too, and long after the mirror was lost.
+/// Each file that a journal's disk has read stands for the changes of the first operations of the run, and maybe for one change more, that of the operation
+/// in hand or in doubt. All operations that ended by that reading are among the first, and the changes of all of them are those that the history has.
 ///
-/// Before that Sync the name of the copy stands for no file at all (`named` of `standby_link`), so a copy that was cut off in its joining is never taken for
-/// a shorter journal.
+/// So does a standby's file from its first Sync on, which is one of these readings, whenever the primary stopped, in the middle of an operation too, and long
+/// after the mirror was lost: all operations are among the first that ended by the last sync which the primary answered while Joined (`standby_link::laws`
+/// says which readings those may be).
 ///
-/// The commands may be those since any moment at which the Provisioner was between two of them, whatever came before: then the last sync that was answered while
-/// Joined has to be none before that moment (`since`).
+/// What a run's operations are, the state says wherever its Provisioner is home (`read` of `IsHomeAfter`), from the start on.
+pub fn readings_stand_for_operations<D: Disk>()
+    ensures { ReadingsStand D.told D.state }
+{}
+
+/// Whatever moment since the start a crash came at, also while an operation used the journal: the file that it leaves stands for the changes of the first
+/// operations of the run, with all that had ended by then, and maybe for one change more, that of the operation in hand or in doubt.
 ///
-/// The standby may also have been joined after that moment, in the middle of a command too: a mirror that was lost joins whoever stands by anew
-/// (`behind`).
-///
-/// Each premise is what clauses give. What a crash at any moment of a command leaves: `any_moment` of `note`, `settle` and `recover`, and of
-/// `Core::open` and `Core::adopt` with what they found, which make a start the first command (`start`); of a command that a crash cut short, what it
-/// would have done is unseen. What there is after the changes: `finishes` of `finish`, `ends` of `end_recovery`; all other calls leave it, and the
-/// journal too. The Provisioner between two commands: `begun`, `home`, `halted`, `rolls` and `resumes`. The calls on the disk, and the primary's
-/// moments: `moments_are_left`, `calls_are_moments` and `answers_stay` of `standby_link::laws`; that the standby keeps up from its first Sync on:
-/// `standbys_keep_up` there, and that no write is too long for it: `short` of `Disk::write_at`.
-pub fn standbys_stand_for_commands<D: Disk>()
-    ensures start { StartsAreCommands D.told D.state }
-    ensures stands { StandbysStand D.told D.state }
-    ensures since { StandbysStandSince D.told D.state }
-    ensures behind { StandbysStandBehind D.told D.state }
-    ensures copies { CopiesStand D.told D.state }
+/// Moments are those of the journal's disk. Each operation has one at which it had ended (`ended`); what was read behind it, was read from then on.
+pub fn crashes_stand_for_operations<D: Disk>()
+    ensures { CrashesStand D.told D.state }
 {}

@@ -1,5 +1,5 @@
 -- A disk over a file, for the contracts of its own calls.
-use Rattle.std.specs.Prelude.{Bool, [], Result, IsErr, IsTrue}
+use Rattle.std.specs.Prelude.{[], Result, IsErr, IsTrue}
 use Rattle.dxc_disk.specs.Disks.{DiskState}
 use Rattle.dxc_disk.specs.declared.file_disk.FileDisk.{FileDisk}
 
@@ -10,6 +10,8 @@ file_state d = record {
   may_leave = λ _. Unit {0};
   moment = 0;
   left_since = λ _ _. Unit {0};
+  readings = [];
+  synced = 0;
   faults = d.faults;
   margin = 0;
   room = 0;

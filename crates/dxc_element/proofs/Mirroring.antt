@@ -44,7 +44,7 @@ module _ {D K : Type 0} (told link_told : Type 0) (state : D → DiskState) (lin
 
   -- where the history of the users begins
   abbrev pub users_began_on : (names : Named) (before : Sources D) (s : Contents) (x : UserState (MirrorDisk D K)) → HasMirroredUsers told link_told state link opener_told names before s x → BeganMirrored told link_told state link opener_told names before s
-  users_began_on names before s x has = record { found = has.0; opening = users_opening (mirror_state state) x; is = has.1.opening; taken = has.1.taken }
+  users_began_on names before s x has = record { found = has.0; opening = users_opening (mirror_state state) x; is = has.1.opening; handed = has.1.handed; taken = has.1.taken }
 
   -- what was served on what was started
   pub serves : (gone : AnyValue → Type 0) (names : Named) (workers : ℕ) (before after : Sources D) (untouched : Type 0) (P : Contents → Opening → UsersOpening → Type 0) (status : Status) (x : Element (MirrorDisk D K) (MirrorDisk D K)) (opened : IsOpenedOn told link_told state link opener_told names workers before x)

@@ -3,7 +3,7 @@ use Rattle.std.proofs.Common.{◌≡◌, ◌≢◌, ◌⊎◌, ◌≤◌, ℕ, L
 use Rattle.std.specs.Prelude.{MatchResult, IfSome}
 use Rattle.std.specs.Arc.{arc_value}
 use Rattle.dxc_causes.specs.Causes.{HasCause, Rose}
-use Rattle.dxc_disk.specs.Disks.{CountsOn, DiskState, IsDisk, IsSound, Spends}
+use Rattle.dxc_disk.specs.Disks.{CountsOn, DiskState, IsDisk, IsSound, Spends, files}
 use Rattle.dxc_leaving.specs.Values.{AnyValue}
 use Rattle.dxc_outside.specs.declared.opened.Opened.{Opened}
 use Rattle.dxc_outside.specs.declared.opened.Opened.TheVariants.{Open, Failed}
@@ -65,12 +65,13 @@ taken_of failed old new faults room margin same_faults same_room same_margin on 
 module _ {D : Type 0} (disk_told : Type 0) (state : D → DiskState) where
   -- the controller on what an opening came to
   pub started : (failed : Type 0) → ((x : D) → CountsOn (state x)) → (disk : D) (s lent : Contents) (workers : ℕ) (laid : FabricId) (x : Controller D) (r : Result (State D) (OpenFault D)) → arc_value x.shelf ≡ s → lent ≡ s → arc_value x.fabric ≡ laid → laid.size ≡ record { shape = s.shape; workers = workers } → r ≡ Ok x.state
-      → IsOpening disk_told (state disk).reads_as lent laid (opening_of state x.state) → Begins disk_told state x.state → IfSome (disk_of r) (λ d. HasCause (state disk).faults (state d).faults failed) → IfSome (disk_of r) (λ d. Spends opening_room (state disk) (state d))
+      → IsOpening disk_told (state disk).reads_as lent laid (opening_of state x.state) → (opening_of state x.state).readings ≡ files (state disk).readings → Begins disk_told state x.state → IfSome (disk_of r) (λ d. HasCause (state disk).faults (state d).faults failed) → IfSome (disk_of r) (λ d. Spends opening_room (state disk) (state d))
       → (length x.seats.items ≡ workers) × AreNew laid 0 x.seats.items → IsStarted disk_told state disk s workers x
-  started failed counts disk s lent workers laid x r shelf lent_is fabric size is opening begins cause spends seats = record {
+  started failed counts disk s lent workers laid x r shelf lent_is fabric size is opening handed begins cause spends seats = record {
     shelf = shelf;
     size = ap (λ (i : FabricId). i.size) fabric ∙ size;
     opening = subst (λ (i : FabricId). IsOpening disk_told (state disk).reads_as s i (opening_of state x.state)) (sym fabric) (subst (λ (y : Contents). IsOpening disk_told (state disk).reads_as y laid (opening_of state x.state)) lent_is opening);
+    handed = handed;
     begins = begins;
     shape = (comes_shape lent.shape opening.folded.head opening.folded.read (opening_of state x.state).first.fold.table (opening_of state x.state).first.fold.colours (opening_of state x.state).first.fold.work opening.folded.comes).0 ∙ ap (λ (y : Contents). y.shape) lent_is;
     taken = taken_of failed (state disk) (state begins.disk) _ _ _ begins.faults begins.room begins.margin (counts begins.disk)
@@ -102,10 +103,11 @@ module _ {D : Type 0} (disk_told : Type 0) (state : D → DiskState) where
   opened opener_told gone names workers before after f (Err e) not = inr (inr (f, not))
 
   -- the users were taken up, on what their opening came to
-  pub users_started : (failed : Type 0) → ((x : D) → CountsOn (state x)) → (disk : D) (s : Contents) (x : UserState D) (r : Result (UserState D) (UserOpenFault D)) → r ≡ Ok x → IsUsersOpening disk_told (state disk).reads_as s (users_opening state x) → UsersBegin disk_told state x
+  pub users_started : (failed : Type 0) → ((x : D) → CountsOn (state x)) → (disk : D) (s : Contents) (x : UserState D) (r : Result (UserState D) (UserOpenFault D)) → r ≡ Ok x → IsUsersOpening disk_told (state disk).reads_as s (users_opening state x) → (users_opening state x).readings ≡ files (state disk).readings → UsersBegin disk_told state x
       → HasCause (state disk).faults (state (users_disk_left r)).faults failed → Spends opening_room (state disk) (state (users_disk_left r)) → AreUsersStarted disk_told state disk s x
-  users_started failed counts disk s x r is opening begins cause spends = record {
+  users_started failed counts disk s x r is opening handed begins cause spends = record {
     opening = opening;
+    handed = handed;
     begins = begins;
     taken = taken_of failed (state disk) (state x.journal.0) _ _ _ begins.faults begins.room begins.margin (counts x.journal.0)
         (subst (λ (y : Result (UserState D) (UserOpenFault D)). HasCause (state disk).faults (state (users_disk_left y)).faults failed) is cause)
@@ -126,11 +128,11 @@ module _ {D : Type 0} (disk_told : Type 0) (state : D → DiskState) where
 
   -- where the history of the users begins
   abbrev pub users_began : (opener_told : Type 0) (names : Named) (before : Sources D) (s : Contents) (x : UserState D) → HasUsers opener_told disk_told state names before s x → Began opener_told disk_told state names before s
-  users_began opener_told names before s x has = record { found = has.0; opening = users_opening state x; is = has.1.opening; taken = has.1.taken }
+  users_began opener_told names before s x has = record { found = has.0; opening = users_opening state x; is = has.1.opening; handed = has.1.handed; taken = has.1.taken }
 
   -- where the history of a controller begins
   pub begun : (disk : D) (s : Contents) (workers : ℕ) (x : Controller D) → IsStarted disk_told state disk s workers x → HasOpening disk_told state disk s (opening_of state x.state)
-  begun disk s workers x started = record { fabric = arc_value x.fabric; opening = started.opening; taken = started.taken }
+  begun disk s workers x started = record { fabric = arc_value x.fabric; opening = started.opening; handed = started.handed; taken = started.taken }
 
   -- what was opened by these names was by the line's, and what was done there is what the line asks for
   pub opens_for : (opener_told : Type 0) (gone : AnyValue → Type 0) (names other : Named) → names ≡ other → (before after : Sources D) (untouched still : Type 0) (P Q : Contents → D → Opening → D → UsersOpening → Type 0) (status : Status) → (untouched → still) → ((s : Contents) (d : D) (o : Opening) (e : D) (p : UsersOpening) → P s d o e p → Q s d o e p)

@@ -2,7 +2,7 @@
 use Rattle.std.specs.Prelude.{◌≡◌, ◌≢◌, ◌⊎◌, ◌≤◌, ◌<◌, ◌+◌, ℕ, List, [], ◌∷◌, ◌++◌, length, codes, Option, Some, Result, Err, MatchResult}
 use Rattle.std.specs.Arc.{arc_value}
 use Rattle.dxc_causes.specs.Causes.{Rose, last}
-use Rattle.dxc_disk.specs.Disks.{DiskState, IsSound}
+use Rattle.dxc_disk.specs.Disks.{DiskState, IsSound, files}
 use Rattle.dxc_outside.specs.Asked.{Asking, shelf_named, journal_named}
 use Rattle.dxc_outside.specs.Openings.{OpenerState, IsShelfPart}
 use Rattle.dxc_leaving.specs.Values.{AnyValue, any_value}
@@ -127,6 +127,8 @@ module _ {D : Type 0} (disk_told : Type 0) (state : D → DiskState) where
   pub record HasOpening (disk : D) (s : Contents) (o : Opening) : Type 0 where
     pub fabric : FabricId
     pub opening : IsOpening disk_told (state disk).reads_as s fabric o
+    -- of that disk, as it was handed out
+    pub handed : o.readings ≡ files (state disk).readings
     pub taken : IsTaken (state disk) o.faults o.room o.margin
 
   -- It started on the shelf, with so many workers, on a fabric of its own; the state stands for no entry after what the disk's journal came to.
@@ -134,6 +136,7 @@ module _ {D : Type 0} (disk_told : Type 0) (state : D → DiskState) where
     pub shelf : arc_value x.shelf ≡ s
     pub size : (arc_value x.fabric).size ≡ record { shape = s.shape; workers = workers }
     pub opening : IsOpening disk_told (state disk).reads_as s (arc_value x.fabric) (opening_of state x.state)
+    pub handed : (opening_of state x.state).readings ≡ files (state disk).readings
     pub begins : Begins disk_told state x.state
     pub shape : (opening_of state x.state).first.fold.table.shape ≡ s.shape
     pub taken : IsTaken (state disk) (opening_of state x.state).faults (opening_of state x.state).room (opening_of state x.state).margin
@@ -163,6 +166,7 @@ module _ {D : Type 0} (disk_told : Type 0) (state : D → DiskState) where
   -- the users were taken up from what this disk's journal came to, and their state stands for no entry after it
   pub record AreUsersStarted (disk : D) (s : Contents) (x : UserState D) : Type 0 where
     pub opening : IsUsersOpening disk_told (state disk).reads_as s (users_opening state x)
+    pub handed : (users_opening state x).readings ≡ files (state disk).readings
     pub begins : UsersBegin disk_told state x
     pub taken : IsTaken (state disk) (users_opening state x).faults (users_opening state x).room (users_opening state x).margin
 
@@ -212,6 +216,7 @@ module _ (opener_told : Type 0) {D : Type 0} (disk_told : Type 0) (state : D →
     pub found : FoundUsers opener_told names before
     pub opening : UsersOpening
     pub is : IsUsersOpening disk_told (state found.disk).reads_as s opening
+    pub handed : opening.readings ≡ files (state found.disk).readings
     pub taken : IsTaken (state found.disk) opening.faults opening.room opening.margin
 
 module _ (opener_told : Type 0) {D : Type 0} (disk_told : Type 0) (state : D → DiskState) (gone : AnyValue → Type 0) where

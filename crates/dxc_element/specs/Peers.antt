@@ -1,16 +1,18 @@
 -- A controller whose journal is mirrored to a standby.
 use denote.MutBor.{MutBor}
 use denote.Triple.Both.{Both}
-use Rattle.std.specs.Prelude.{◌≡◌, ◌⊎◌, ◌≤◌, ℕ, List, [], ◌∷◌, Option, Some, IsSomeAnd, Result, MatchResult}
+use Rattle.std.specs.Prelude.{◌≡◌, ◌⊎◌, ◌+◌, ◌^◌, ◌≤◌, ◌<◌, ℕ, List, [], ◌∷◌, length, Option, Some, IsSomeAnd, Result, MatchResult}
 use Rattle.dxc_causes.specs.Causes.{Rose}
-use Rattle.dxc_disk.specs.Disks.{DiskState, Looks}
+use Rattle.dxc_disk.specs.Disks.{DiskState, Looks, files}
 use Rattle.dxc_outside.specs.Asked.{Asking, shelf_named, journal_named, peer_named}
 use Rattle.dxc_outside.specs.Links.{LinkState}
 use Rattle.dxc_leaving.specs.Values.{AnyValue, any_value}
 use Rattle.shelf_file.specs.Contents.{Contents}
 use Rattle.standby_link.specs.declared.mirror_disk.MirrorDisk.{MirrorDisk}
+use Rattle.standby_link.specs.Acts.{pieces}
 use Rattle.standby_link.specs.Lines.{line_at}
-use Rattle.standby_link.specs.Moves.{Joins}
+use Rattle.standby_link.specs.Mirrors.{joining}
+use Rattle.standby_link.specs.Moves.{IsSmall, Joins, TookHaves, first_line, mirrored}
 use Rattle.user_admin.specs.declared.state.UserState.{UserState}
 use Rattle.user_admin.specs.Histories.{Opening as UsersOpening}
 use Rattle.user_admin.specs.Openings.{IsOpening as IsUsersOpening}
@@ -54,6 +56,9 @@ module _ {D K : Type 0} (disk_told link_told : Type 0) (state : D → DiskState)
     pub later : (state disk).faults ≤ (state m.disk.disk).faults
     pub peer : K
     pub joins : IsSomeAnd m.line (λ l. Joins disk_told link_told (state disk) (state m.disk.disk) (link peer) (line_at link l))
+    -- which is the first step of a primary, along with which it reads from then on (`disks_read_along`)
+    pub step : disk_told → IsSmall 0 0 (state disk).reads_as → length (pieces 0 (state disk).reads_as) + 1 < 2 ^ 64
+        → IsSomeAnd m.line (λ l. TookHaves disk_told link_told (first_line (link peer)) (mirrored (state m.disk.disk) (line_at link l)) (joining (state disk).reads_as))
 
   module _ (opener_told : Type 0) where
     -- the mirror of the disk that was handed out for a journal
@@ -87,6 +92,7 @@ module _ {D K : Type 0} (disk_told link_told : Type 0) (state : D → DiskState)
       pub found : FoundUsersMirror names before
       pub opening : UsersOpening
       pub is : IsUsersOpening disk_told (mirror_state state found.mirror).reads_as s opening
+      pub handed : opening.readings ≡ files (mirror_state state found.mirror).readings
       pub taken : IsTaken (mirror_state state found.mirror) opening.faults opening.room opening.margin
 
     -- the controller that the names stand for, on the mirror, and its users, on a mirror of their journal

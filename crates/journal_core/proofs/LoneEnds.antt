@@ -1,16 +1,15 @@
 -- An opening and a reread write at most the byte after the last record.
-use Rattle.std.proofs.Common.{◌≡◌, ℕ, List, inl, inr, ⊎_elim, ◌∙◌, sym, subst}
+use Rattle.std.proofs.Common.{ℕ, List, inl, inr, ⊎_elim, subst}
 use Rattle.std.specs.Prelude.{Result}
-use Rattle.dxc_disk.specs.Disks.{DiskState, IsDisk, Looks, Torn}
+use Rattle.dxc_disk.specs.Disks.{DiskState, IsDisk, Looks}
 use Rattle.dxc_num.specs.Dimensions.{Dimensions}
-use Rattle.journal_core.specs.declared.area.Area.{Area}
 use Rattle.journal_core.specs.declared.book.Book.{Book}
 use Rattle.journal_core.specs.declared.half.Half.{Half}
 use Rattle.journal_core.specs.declared.head.Head.{Head}
 use Rattle.journal_core.specs.Areas.{area_of}
 use Rattle.journal_core.specs.Books.{area}
 use Rattle.journal_core.specs.Headers.{IsCurrent}
-use Rattle.journal_core.specs.Scans.{end_of, LacksEnd, SetsEnd}
+use Rattle.journal_core.specs.Scans.{SetsEnd}
 use Rattle.journal_core.specs.Ends.{SetsEndAlone}
 use Rattle.journal_core.proofs.FoundSteps.{found_current}
 use Rattle.journal_core.proofs.ResumeSteps.{IsAgain}

@@ -1,9 +1,10 @@
 -- A place that rests at the users does so after each of its sessions, and after all of them nobody has the keeper.
-use Rattle.std.proofs.Common.{◌≡◌, ◌<◌, ℕ, List, [], ◌∷◌, Option, Some, None, Box, refl, sym, ◌∙◌, subst}
+use Rattle.std.proofs.Common.{◌≡◌, ◌<◌, ⊎_elim, ℕ, List, [], ◌∷◌, Option, Some, None, Box, refl, sym, ◌∙◌, subst}
 use Rattle.std.specs.declared.alloc.Global.{Global}
 use Rattle.turnstile.specs.Laws.{HasSeen}
 use Rattle.turnstile.specs.Turning.{Each}
-use Rattle.dxc_disk.specs.Disks.{DiskState}
+use Rattle.std.proofs.lemmas.Option.{IfSome_then}
+use Rattle.dxc_disk.specs.Disks.{DiskState, IsSynced}
 use Rattle.user_admin.specs.declared.op.UserMark.{UserMark}
 use Rattle.user_admin.specs.declared.op.UserMark.TheVariants.{Entered, Took}
 use Rattle.user_admin.specs.declared.op.UserOutcome.{UserOutcome}
@@ -13,13 +14,15 @@ use Rattle.user_admin.specs.declared.state.UserState.{UserState}
 use Rattle.user_admin.specs.Coding.{mark_coded}
 use Rattle.user_admin.specs.Histories.{Opening}
 use Rattle.user_admin.specs.Marks.{entries_of, holder, holder_by, place_of}
+use Rattle.user_admin.specs.Operations.{IsFileOf}
 use Rattle.user_admin.specs.Resting.{Rests, SawRest}
 use Rattle.user_admin.specs.Shared.{KeeperIs, SharedFor}
 use Rattle.user_admin.proofs.Resting.{rests_behind}
 use Rattle.craft_session.specs.Seats.{UserSeatAt}
 use Rattle.craft_server.specs.Callers.{InTurn, none_yet, one_more}
-use Rattle.user_laws.specs.Mirrorings.{StandbysStandSince}
+use Rattle.standby_link.specs.Laws.{named}
 use Rattle.serve_laws.specs.Keepers.{IsKeeperHome}
+use Rattle.serve_laws.proofs.Standbys.{StandbyLaws}
 
 -- so it is of the place at the users
 abbrev pub RestsThere : UserSeatAt → Type 0
@@ -61,13 +64,22 @@ nobody_keeps n ms few rests = held (holder None ms) refl
     held None is = refl
     held (Some k) is = absurd (rests k (keeper_each (λ j. j < n) None ms (λ j none. absurd (let no : None ≡ Some j = none in cc)) few k is) is)
 
-module _ {D : Type 0} (told : Type 0) (state : D → DiskState) (since : StandbysStandSince told state) (o : Opening) (ms : List UserMark) (nobody : holder None ms ≡ None) where
+module _ {D : Type 0} (told : Type 0) (state : D → DiskState) (laws : StandbyLaws told state) (o : Opening) (ms : List UserMark) (nobody : holder None ms ≡ None) where
   keeper_by : (k : Option (Box (UserState D) Global)) → KeeperIs told state o ms k → IsKeeperHome told state o ms k
   keeper_by (Some k) x = record {
     users = k;
     is = refl;
     stands = x.1;
-    standby = λ t cs u are. since t o k.value.journal.0 (entries_of ms) cs u are;
+    crashes = λ t n file few left_since. laws.users_crashes t o (entries_of ms) k.value x.1 n file few left_since;
+    standby = λ t pair by within keeps along. laws.users t o (entries_of ms) k.value x.1 pair by within keeps along;
+    joined = λ t certain pair line by keeps mirrors none.
+        let d = k.value.journal.0 in
+        let h = entries_of ms in
+        let synced : IsSynced (state d) = ⊎_elim (λ s. s) (λ doubt. absurd (certain doubt.0 doubt.1)) (x.1.read t).synced in
+        let reads : IsFileOf o h (state d).reads_as = ⊎_elim (λ r. r) (λ doubt. absurd (certain doubt.0.0 doubt.0.1)) (x.1.reads t) in
+        IfSome_then (named pair.standby) {P = λ (file : List ℕ). file ≡ (state d).reads_as} {Q = IsFileOf o h}
+        (laws.current d pair keeps (laws.joined t d line pair.primary by mirrors none synced))
+        (λ file is. subst (IsFileOf o h) (sym is) reads);
   }
   keeper_by None x = absurd (let no : None ≡ Some x.0 = sym nobody ∙ x.1 in cc)
 

@@ -5,6 +5,7 @@ pub mod Serving
 pub mod Placing
 pub mod Ordered
 pub mod Owning
+pub mod Standbys
 pub mod Leaving
 pub mod Homes
 pub mod Keepers

@@ -16,9 +16,6 @@ use Rattle.dxc_model.specs.declared.op.Change.{Change}
 use Rattle.dxc_model.specs.declared.entry.Entry.{Entry}
 use Rattle.dxc_model.specs.Histories.{changes_of, table_after}
 use Rattle.dxc_model.proofs.Growth.{changes_append, table_append}
-use Rattle.core_laws.specs.Laws.{StandbysAreAdopted, SyncedAreMirrored}
-use Rattle.core_laws.specs.Mirrorings.{StandbysStandSince}
-use Rattle.user_laws.specs.Mirrorings.{StandbysStandSince as UsersStandSince}
 use Rattle.frame_worker.specs.Laws.{AreOwnBytes}
 use Rattle.shelf_file.specs.Contents.{Contents}
 use Rattle.user_admin.specs.declared.op.UserMark.{UserMark}
@@ -54,9 +51,10 @@ use Rattle.serve_laws.proofs.Leaving.{brought_home, leaves_changes}
 use Rattle.serve_laws.proofs.Ordered.{ordered, passes}
 use Rattle.serve_laws.proofs.Owning.{all_own, core_of}
 use Rattle.serve_laws.proofs.Placing.{get_map, heard_as_one, heard_then, hearings, map_length, nobody_has, nobody_keeps_it, acts_each, all_sessions, passed_as_one, played_in_order, ran_length, served_then, sessions, took, took_then, took_used, used}
+use Rattle.serve_laws.proofs.Standbys.{StandbyLaws}
 use Rattle.serve_laws.proofs.Resting.{at_home, begun, count, get_below, history, lying, has_one, numbers, opening_is, seen_at, stand, view_at}
 
-module _ (w : World) (synced : SyncedAreMirrored w.disk.told w.disk.state) (adopted : StandbysAreAdopted w.disk.told w.disk.state) (since : StandbysStandSince w.disk.told w.disk.state) (users_since : UsersStandSince w.disk.told w.disk.state) (s : Contents) (o : Opening) (p : UsersOpening) (jobs : List (Job w)) (lefts : List PlaceAt) (seats : List FramesLeft) (sixteen : length jobs ≡ 16) (has : HasPlaces s o p 16 (map (λ (j : Job w). j.place) jobs)) (ran : AreRan (left_by (Ran w)) jobs lefts) (e : IsEnd w o p has.turnstiles lefts seats) where
+module _ (w : World) (laws : StandbyLaws w.disk.told w.disk.state) (s : Contents) (o : Opening) (p : UsersOpening) (jobs : List (Job w)) (lefts : List PlaceAt) (seats : List FramesLeft) (sixteen : length jobs ≡ 16) (has : HasPlaces s o p 16 (map (λ (j : Job w). j.place) jobs)) (ran : AreRan (left_by (Ran w)) jobs lefts) (e : IsEnd w o p has.turnstiles lefts seats) where
   many : {X : Type 0} (f : PlaceAt → X) → length (map f lefts) ≡ 16
   many f = map_length f lefts ∙ ran_length (left_by (Ran w)) jobs lefts ran ∙ sixteen
 
@@ -114,7 +112,7 @@ module _ (w : World) (synced : SyncedAreMirrored w.disk.told w.disk.state) (adop
     stood = subst (λ (y : Opening). StandsFor w.disk.told w.disk.state y was.0.state.value (began y.due ++ m.allowed.history)) (was.2 ∙ made_for) was.3
 
     lay_for : LiesFor w o m.allowed.history z
-    lay_for = record { lying = was.0; at_home = was.1; stands = stood; leaves = leaves_changes w.disk.told w.disk.state synced adopted since o was.0.state.value (began o.due ++ m.allowed.history) stood }
+    lay_for = record { lying = was.0; at_home = was.1; stands = stood; leaves = leaves_changes w.disk.told w.disk.state laws o was.0.state.value (began o.due ++ m.allowed.history) stood }
 
     -- each pass had seen a beginning of the history
     sees : (n : ℕ) (v : View) → n < m.allowed.dealt → get_elem? z.views (n + 1) ≡ some_of v → SeesOn entry_coded.code h v.seen
@@ -162,17 +160,17 @@ module _ (w : World) (synced : SyncedAreMirrored w.disk.told w.disk.state) (adop
 
     -- and what links had been written at an earlier moment
     module _ (z : TableState (Option (Lying w)) View) (m : IsEarlier w e.key lefts z) (k : ℕ) (lt : k < 16) (v : View) (at : get_elem? z.views (k + 1) ≡ some_of v) where
-      abbrev moment : WasThen w s o excused by_turns.turns h ss z
-      moment = was_then z m excused ss by_turns.turns by_turns.played
+      abbrev then_was : WasThen w s o excused by_turns.turns h ss z
+      then_was = was_then z m excused ss by_turns.turns by_turns.played
 
-      links_then : w.office.link.told → let x = (served_then w s o p has.turnstiles jobs lefts sixteen has.each ran k lt).served in WereWrittenThen (moment_at w s o k v.seen ((passes_at moment.earlier moment.later moment.whole).sessions k)) w.office.link.state (links_of w x.job x.done x.left x.ran) (ss k)
+      links_then : w.office.link.told → let x = (served_then w s o p has.turnstiles jobs lefts sixteen has.each ran k lt).served in WereWrittenThen (moment_at w s o k v.seen ((passes_at then_was.earlier then_was.later then_was.whole).sessions k)) w.office.link.state (links_of w x.job x.done x.left x.ran) (ss k)
       unfolding was_then
       links_then told =
           let y = served_then w s o p has.turnstiles jobs lefts sixteen has.each ran k lt in
           let more = m.sees_on k y.served.left v y.served.left_is at in
           let f = (m.allowed.each (k + 1) v at).front in
-          let then_passed = passes_at moment.earlier moment.later moment.whole in
-          y.by_then (moment_at w s o k v.seen (then_passed.sessions k)) (began o.due ++ moment.earlier)
+          let then_passed = passes_at then_was.earlier then_was.later then_was.whole in
+          y.by_then (moment_at w s o k v.seen (then_passed.sessions k)) (began o.due ++ then_was.earlier)
           (record {
             tells = told;
             stamps = λ x there. there;
@@ -205,16 +203,16 @@ module _ (w : World) (synced : SyncedAreMirrored w.disk.told w.disk.state) (adop
           lying = lies;
           at_home = at_home _ _ _ _ _ _ _ _ _ e.of_state opening_coded.inj o 16 has.state_made seen_many some;
           stands = stands;
-          leaves = leaves_changes w.disk.told w.disk.state synced adopted since o lies.state.value (began o.due ++ h) stands;
+          leaves = leaves_changes w.disk.told w.disk.state laws o lies.state.value (began o.due ++ h) stands;
         };
-        home = brought_home w.disk.told w.disk.state synced adopted since o lies.state.value (began o.due ++ h) stands (nobody_has w s o p has.turnstiles jobs lefts sixteen has.each ran h seen few);
+        home = brought_home w.disk.told w.disk.state laws o lies.state.value (began o.due ++ h) stands (nobody_has w s o p has.turnstiles jobs lefts sixteen has.each ran h seen few);
         users_history = entries_of g;
         users_left = g;
         users_entered = refl;
         users_lying = users_lie;
         users_at_home = at_home _ _ _ _ _ _ _ _ _ e.of_users users_coded.inj p 16 has.users_made users_many some;
         users_stand = users_stand;
-        users_home = keeper_home w.disk.told w.disk.state users_since p g (nobody_keeps_it w s o p has.turnstiles jobs lefts sixteen has.each ran g saw_users users_few) users_lie.state.value users_stand;
+        users_home = keeper_home w.disk.told w.disk.state laws p g (nobody_keeps_it w s o p has.turnstiles jobs lefts sixteen has.each ran g saw_users users_few) users_lie.state.value users_stand;
         sessions = ss;
         hearings = hearings w s o p has.turnstiles jobs lefts sixteen has.each ran;
         each = λ k lt. (served_then w s o p has.turnstiles jobs lefts sixteen has.each ran k lt).served;
@@ -231,9 +229,9 @@ module _ (w : World) (synced : SyncedAreMirrored w.disk.told w.disk.state) (adop
         heard_before = heard_then w s o p has.turnstiles jobs lefts sixteen has.each ran g saw_users users_stand.legal users_few;
       }
 
-pub headline : AreOwnBytes → (w : World) → SyncedAreMirrored w.disk.told w.disk.state → StandbysAreAdopted w.disk.told w.disk.state → StandbysStandSince w.disk.told w.disk.state → UsersStandSince w.disk.told w.disk.state → (handed : List AnyJob → Type 0) (site : SiteAt) (s : Contents) (o : Opening) (p : UsersOpening) (j : Jobs w handed site s o p) (e : IsEnd w o p j.places.turnstiles j.left.left.sessions.items j.left.left.workers.items)
+pub headline : AreOwnBytes → (w : World) → StandbyLaws w.disk.told w.disk.state → (handed : List AnyJob → Type 0) (site : SiteAt) (s : Contents) (o : Opening) (p : UsersOpening) (j : Jobs w handed site s o p) (e : IsEnd w o p j.places.turnstiles j.left.left.sessions.items j.left.left.workers.items)
     → IsOneElement w s o p j.sessions j.left.left.sessions.items e.key e.state e.users × IsHitlessFabric w o j.workers j.left.left.workers.items e.fabric
-headline own_bytes w synced adopted since users_since handed site s o p j e = (
-  one_element w synced adopted since users_since s o p j.sessions j.left.left.sessions.items j.left.left.workers.items j.sixteen j.places j.left.of_sessions e,
+headline own_bytes w laws handed site s o p j e = (
+  one_element w laws s o p j.sessions j.left.left.sessions.items j.left.left.workers.items j.sixteen j.places j.left.of_sessions e,
   record { core = core_of o.site.fabric.size e.fabric e.of_fabric; always = core_of o.site.fabric.size; frames = all_own own_bytes w.uses.lines w.uses.gate w.office.opener.lines_for o.site.fabric site.lines e.fabric e.of_fabric 0 j.workers j.left.left.workers.items j.seats j.left.of_workers e.of_seats },
 )

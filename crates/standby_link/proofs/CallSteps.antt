@@ -28,8 +28,8 @@ module _ {D : Type 0} (state : D → DiskState) where
   -- what might have been left before the calls might have been left after them
   stays : (d : D) (cs : List (Call D)) → AreCalls state d cs → (t : ℕ) (file : List ℕ) → t ≤ (state d).moment → (state d).left_since t file → (state (last_of d cs)).left_since t file
   stays d [] are t file le left = left
-  stays d (looks e ∷ cs) are t file le left = stays e cs are.1 t file (omega (arith, le, are.0.time.later)) (are.0.time.keeps t file le left)
-  stays d (moves e ∷ cs) are t file le left = stays e cs are.1 t file (omega (arith, le, are.0.later)) (are.0.keeps t file le left)
+  stays d (looks e ∷ cs) are t file le left = stays e cs are.1 t file (omega (arith, le, are.0.time.on.later)) (are.0.time.keeps t file le left)
+  stays d (moves e ∷ cs) are t file le left = stays e cs are.1 t file (omega (arith, le, are.0.on.later)) (are.0.keeps t file le left)
 
   -- after the calls, what is read goes on from where they ended
   pub read_on : (d : D) (cs : List (Call D)) → AreCalls state d cs → (files : List (List ℕ)) (m n : ℕ) → m ≡ length (read_in state cs) + n → slice_get ((state d).reads_as ∷ (read_in state cs ++ files)) m ≡ slice_get ((state (last_of d cs)).reads_as ∷ files) n
@@ -46,9 +46,9 @@ module _ {D : Type 0} (state : D → DiskState) where
     left_from d [] are t le zero file at = left_first d [] are t file le at
     left_from d [] are t le (suc n) file at = absurd (let e : None ≡ Some file = at in cc)
     left_from d (looks e ∷ cs) are t le zero file at = left_first d (looks e ∷ cs) are t file le at
-    left_from d (looks e ∷ cs) are t le (suc n) file at = left_from e cs are.1 t (omega (arith, le, are.0.time.later)) (suc n) file at
+    left_from d (looks e ∷ cs) are t le (suc n) file at = left_from e cs are.1 t (omega (arith, le, are.0.time.on.later)) (suc n) file at
     left_from d (moves e ∷ cs) are t le zero file at = left_first d (moves e ∷ cs) are t file le at
-    left_from d (moves e ∷ cs) are t le (suc n) file at = left_from e cs are.1 t (omega (arith, le, are.0.later)) n file at
+    left_from d (moves e ∷ cs) are t le (suc n) file at = left_from e cs are.1 t (omega (arith, le, are.0.on.later)) n file at
 
     pub moment_left : (d : D) (cs : List (Call D)) → AreCalls state d cs → (n : ℕ) (file : List ℕ) → slice_get ((state d).reads_as ∷ read_in state cs) n ≡ Some file → (state (last_of d cs)).left_since (state d).moment file
     moment_left d cs are n file at = left_from d cs are (state d).moment (omega arith) n file at

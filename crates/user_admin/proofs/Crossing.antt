@@ -22,7 +22,7 @@ use Rattle.user_admin.specs.contracts.state.UserState as UserState
 module _ (D : RattleType) (g : Disk.Ghosts D.Denot) (s : Send.IsSend D) where
   origin_field_send : Send.IsSend (UserOrigin.the_field D g).row
   origin_field_send = Send.struct_send (Declared.shape (UserOrigin.the_type D g))
-      (record { owned = λ d vs. ((λ vss. (tt, ((λ uss. (tt, tt)), tt))), tt); leaving = λ k f vs. tt }, (record { owned = λ d vs. ((λ vss. (tt, ((λ uss. (tt, tt)), tt))), tt); leaving = λ k f vs. tt }, (record { owned = λ d vs. ((λ vss. (tt, ((λ uss. (tt, tt)), tt))), tt); leaving = λ k f vs. tt }, tt)))
+      (record { owned = λ d vs. ((λ vss. (tt, ((λ uss. (tt, tt)), tt))), tt); leaving = λ k f vs. tt }, (record { owned = λ d vs. ((λ vss. (tt, ((λ uss. (tt, tt)), tt))), tt); leaving = λ k f vs. tt }, (record { owned = λ d vs. ((λ vss. (tt, ((λ uss. (tt, tt)), tt))), tt); leaving = λ k f vs. tt }, (record { owned = λ d vs. ((λ vss. (tt, ((λ uss. (tt, tt)), tt))), tt); leaving = λ k f vs. tt }, tt))))
 
   keeper_send : Send.IsSend (UserState.the_row D g)
   keeper_send = Send.recorded_send (UserState.the_field D g).row _ _ (UserState.the_type D g).to_one (Send.struct_send (Declared.shape (UserState.the_type D g))

@@ -5,9 +5,10 @@ use Rattle.std.specs.FinMap.{len}
 use Rattle.std.proofs.lemmas.List.{length-replicate, length-take}
 use Rattle.std.proofs.lemmas.Bool.Decides.{leb_tells}
 use Rattle.dxc_num.specs.Dimensions.{Dimensions}
-use Rattle.dxc_disk.specs.Disks.{DiskState, CountsOn, IsDisk, IsSettled, IsSound, LeavesOnly, Looks, Spends}
-use Rattle.dxc_disk.proofs.DiskSteps.{sound_on, spends_more, spends_on}
+use Rattle.dxc_disk.specs.Disks.{DiskState, CountsOn, IsDisk, IsSettled, IsSound, IsSynced, Leaves, LeavesOnly, Looks, ReadsNoMore, ReadsOnly, Spends, files}
+use Rattle.dxc_disk.proofs.DiskSteps.{goes_on, no_more_synced, sound_on, spends_more, spends_on}
 use Rattle.dxc_disk.proofs.LookSteps.{looks_settled}
+use Rattle.dxc_disk.proofs.ReadingSteps.{files_on, only_as, reads_last}
 use Rattle.journal_core.specs.declared.area.Area.{Area}
 use Rattle.journal_core.specs.declared.book.Book.{Book}
 use Rattle.journal_core.specs.declared.fault.JournalWhy.{JournalWhy}
@@ -31,10 +32,13 @@ use Rattle.user_admin.specs.Spellable.{AreDescribed}
 use Rattle.user_admin.specs.Files.{FoldsTo}
 use Rattle.user_admin.specs.Journals.{IsAtHome, IsBadRecord}
 use Rattle.user_admin.specs.Histories.{Opening}
+use Rattle.user_admin.specs.Operations.{EndedBy, HasRead, IsFileAfter, IsFileOf, MayBeAtStart, ended_at}
 use Rattle.user_admin.specs.States.{IsOfShelf, StandsFor, opening_of, recorded}
 use Rattle.user_admin.specs.Openings.{Begins, HasBadRecord, IsOpening, LeavesOpened}
-use Rattle.user_admin.proofs.Keeping.{untried}
+use Rattle.user_admin.proofs.Keeping.{file_by, untried}
+use Rattle.user_admin.proofs.Ending.{holds_all, none_ended}
 use Rattle.user_admin.proofs.Folding.{fold_spellable}
+use Rattle.user_admin.proofs.Operating.{since_end}
 use Rattle.user_admin.proofs.Standing.{paid_counted, stands_at}
 
 le_or_lt : (a b : ℕ) → (a ≤ b) ⊎ (b < a)
@@ -100,11 +104,11 @@ bad_record shelf h a b book i users left same disk whole mended still old new ba
 -- what holds of a crash at any moment of a call holds still where only looks came after it
 looked_on : (a b c : DiskState) (P : List ℕ → Type 0) → IsDisk b → LeavesOnly a b P → Looks b c → LeavesOnly a c P
 looked_on a b c P disk first looks =
-    let image_has : (x : List ℕ) → c.may_leave x → P x = λ x image. first.each x (disk.counts_now a.moment x first.later (looks.crash x image)) in
+    let image_has : (x : List ℕ) → c.may_leave x → P x = λ x image. first.each x (disk.counts_now a.moment x first.on.later (looks.crash x image)) in
     record {
-      later = omega (arith, first.later, looks.time.later);
-      each = λ x left. ⊎_elim (λ mid. first.each x mid) (λ image. image_has x image) (looks.time.nothing_else a.moment x first.later left);
-      before = λ t x le left. ⊎_elim (λ mid. first.before t x le mid) (λ image. inr (image_has x image)) (looks.time.nothing_else t x (omega (arith, le, first.later)) left);
+      on = goes_on a b c first.on looks.time.on;
+      each = λ x left. ⊎_elim (λ mid. first.each x mid) (λ image. image_has x image) (looks.time.nothing_else a.moment x first.on.later left);
+      before = λ t x le left. ⊎_elim (λ mid. first.before t x le mid) (λ image. inr (image_has x image)) (looks.time.nothing_else t x (omega (arith, le, first.on.later)) left);
     }
 
 -- the moments of an opening, and of looks after it
@@ -140,6 +144,7 @@ recorded_is book file counts =
 -- a disk whose journal was opened, and whose records were taken
 module _ {D : Type 0} (told : Type 0) (state : D → DiskState) (shelf : Contents) (a b : DiskState) (book : Book) (s : UserState D) (records : List (List ℕ))
     (shelf_kept : s.origin.shelf.value ≡ shelf)
+    (handed : (state s.origin.disk.value).readings ≡ a.readings)
     (users_kept : s.origin.users.value ≡ s.lists.value.users)
     (journal_kept : s.origin.journal.value ≡ s.journal)
     (sid : s.sid ≡ shelf.sid)
@@ -148,6 +153,7 @@ module _ {D : Type 0} (told : Type 0) (state : D → DiskState) (shelf : Content
     (spelled : AreDescribed (shelf_users shelf))
     (old : told → (IsNew a.reads_as → ⊥) → OpensOld shelf.shape a b (Ok book))
     (new : told → IsNew a.reads_as → OpensNew shelf.shape (made_head shelf.equipped) a b (Ok book))
+    (was_disk : told → IsDisk a)
     (disk : told → IsDisk b)
     (disk_now : told → IsDisk (state s.journal.0))
     (counts_on : CountsOn (state s.journal.0))
@@ -157,6 +163,7 @@ module _ {D : Type 0} (told : Type 0) (state : D → DiskState) (shelf : Content
     (still : book.turning ≡ false)
     (same : s.journal.1 ≡ book)
     (looks : told → Looks b (state s.journal.0))
+    (no_more : told → ReadsNoMore b (state s.journal.0))
     (kept : told → IsKept b book → IsKept (state s.journal.0) s.journal.1)
     (number : length records ≡ book.count)
     (read : told → records ≡ listed book b.reads_as)
@@ -166,6 +173,7 @@ module _ {D : Type 0} (told : Type 0) (state : D → DiskState) (shelf : Content
     shelf = shelf;
     records = recorded s.journal.1 (state s.journal.0).reads_as;
     users = s.lists.value.users;
+    readings = files a.readings;
     faults = (state s.journal.0).faults;
     margin = (state s.journal.0).margin;
     room = (state s.journal.0).room;
@@ -176,6 +184,7 @@ module _ {D : Type 0} (told : Type 0) (state : D → DiskState) (shelf : Content
     shelf = shelf_kept k;
     records = recorded (journal_kept k).1 (state (journal_kept k).0).reads_as;
     users = users_kept k;
+    readings = files (handed k);
     faults = (state (journal_kept k).0).faults;
     margin = (state (journal_kept k).0).margin;
     room = (state (journal_kept k).0).room;
@@ -219,10 +228,52 @@ module _ {D : Type 0} (told : Type 0) (state : D → DiskState) (shelf : Content
   of_shelf : IsOfShelf opening s
   of_shelf = record { sid = sid; described = described; shape = ap (λ (x : Book). x.shape) same ∙ shape; few = few; spelled = spelled }
 
+  -- a file that stands for what was found stands for the users at the opening
+  alike_opened : (x : told) → (IsNew a.reads_as → ⊥) → (file : List ℕ) → StandsAlike shelf.shape a.reads_as file → IsFileOf opening [] file
+  alike_opened x not file alike = file_by shelf.shape book.head (shelf_users shelf) s.lists.value.users (listed book b.reads_as) file (alike book.head (listed book b.reads_as) (old x not).finds.1)
+      (subst (λ (rs : List (List ℕ)). FoldsTo (shelf_users shelf) rs s.lists.value.users) (read x) folds)
+
+  -- what it read then
+  first_read : told → MayBeAtStart opening a.reads_as
+  first_read x = ⊎_elim (λ n. inr (inl n)) (λ not. inl (alike_opened x not a.reads_as (λ e rs stands. stands))) (new_or_old a.reads_as)
+
+  -- and in the start
+  start_read : told → ReadsOnly a b (MayBeAtStart opening)
+  start_read x = ⊎_elim
+      (λ n. only_as (IsFresh (header shelf.shape (made_head shelf.equipped))) (MayBeAtStart opening) a b (λ file fresh. inr fresh) (new x n).read)
+      (λ not. only_as (StandsAlike shelf.shape a.reads_as) (MayBeAtStart opening) a b (λ file alike. inl (alike_opened x not file alike)) (old x not).read)
+      (new_or_old a.reads_as)
+
+  was_synced : told → IsSynced b
+  was_synced x = ⊎_elim (λ n. (new x n).synced) (λ not. (old x not).synced) (new_or_old a.reads_as)
+
+  reads_all : (x : told) → files (state s.journal.0).readings ≡ files a.readings ++ (files (start_read x).more ++ [])
+  reads_all x =
+      let only = start_read x in
+      ap files (no_more x).readings ∙ (ap files only.readings ∙ (files_on a.readings only.more ∙ ap (λ (fs : List (List ℕ)). files a.readings ++ fs) (sym (append-nil (files only.more)))))
+
+  read_opened : told → Leaves (state s.journal.0) (IsFileAfter opening []) → HasRead opening [] (state s.journal.0)
+  read_opened x images =
+      let only = start_read x in
+      record {
+        started = files only.more;
+        operations = [];
+        start = (subst (MayBeAtStart opening) (sym (reads_last a (was_disk x))) (first_read x), only.each);
+        are = tt;
+        entered = refl;
+        readings = reads_all x;
+        synced = inl (no_more_synced b (state s.journal.0) (no_more x) (was_synced x));
+        begun = (state s.journal.0).moment;
+        in_order = omega arith;
+        since = λ n. since_end (λ r. ended_at (state s.journal.0).moment [] n ≤ r.at) (state s.journal.0) (files a.readings) (files only.more) [] n (omega arith) (reads_all x);
+        left = λ n file left. holds_all opening [] file (EndedBy (state s.journal.0).moment [] (ended_at (state s.journal.0).moment [] n))
+            (images file ((disk_now x).only_now file (subst (λ (t : ℕ). (state s.journal.0).left_since t file) (none_ended (state s.journal.0).moment n) left)));
+      }
+
   stands_opened : StandsFor told state opening s []
   stands_opened = stands_at told state opening s [] disk_now of_shelf (subst IsWhole (sym same) whole_book) None (λ c e. absurd cc) journal_home refl
       record { opened = (folds.0, folds.2, folds.3); entries = tt } (omega arith) (λ enough. record { room = omega arith; margin = omega arith })
-      (paid_counted opening [] (state s.journal.0) counts_on (omega arith) (λ enough. record { room = omega arith; margin = omega arith })) (fold_spellable (shelf_users shelf) records s.lists.value.users spelled folds)
+      (paid_counted opening [] (state s.journal.0) counts_on (omega arith) (λ enough. record { room = omega arith; margin = omega arith })) (fold_spellable (shelf_users shelf) records s.lists.value.users spelled folds) read_opened
 
   pub opened : IsOpening told a.reads_as shelf (opening_of state s) × Begins told state s
   opened = (

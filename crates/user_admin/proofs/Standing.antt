@@ -4,7 +4,7 @@ use Rattle.std.specs.Prelude.{min, nat_le}
 use Rattle.std.specs.FinMap.{len}
 use Rattle.dxc_causes.specs.Causes.{Rose, last}
 use Rattle.dxc_num.specs.Dimensions.{Dimensions}
-use Rattle.dxc_disk.specs.Disks.{CountsOn, DiskState, IsDisk, IsSpent, LeavesOnly, Spends}
+use Rattle.dxc_disk.specs.Disks.{CountsOn, DiskState, IsDisk, IsSpent, IsSynced, Leaves, LeavesOnly, Spends}
 use Rattle.dxc_disk.proofs.DiskSteps.{spends_none}
 use Rattle.dxc_model.specs.declared.cause.Cause.{Cause}
 use Rattle.dxc_model.specs.declared.cause.Cause.TheVariants.{BadIdentity, DiskFault, LastOfClassS, UnknownUser, UserThere, UsersFull}
@@ -37,13 +37,15 @@ use Rattle.user_admin.specs.Journals.{IsAtHome}
 use Rattle.user_admin.specs.Histories.{IsInDoubt, IsLegal, IsLegalFrom, IsReading, MayCome, Opening, change_in, changes_of, failure_in, failures, users_after}
 use Rattle.user_admin.specs.Laws.{AreNamed}
 use Rattle.user_admin.specs.Openings.{asked_before}
-use Rattle.user_admin.specs.States.{IsFileAfter, IsFileOf, IsFileWithChange, IsFileWithDoubt, IsOfShelf, IsPaid, SpendsOf, StandsFor, cost, entry, most_room, refused, room_in}
+use Rattle.user_admin.specs.Operations.{HasRead, IsFileAfter, IsFileOf, IsFileWithDoubt, MayBe}
+use Rattle.user_admin.specs.States.{IsOfShelf, IsPaid, SpendsOf, StandsFor, cost, entry, most_room, refused, room_in}
 use Rattle.user_admin.proofs.Always.{limit_kept_always, shelf_users_named, users_named}
 use Rattle.user_admin.proofs.Granted.{none_some, same_some}
 use Rattle.user_admin.proofs.Keeping.{file_by, home_images}
 use Rattle.user_admin.specs.Marks.{ArePassing, PassesBy}
 use Rattle.user_admin.proofs.Leading.{after-append}
 use Rattle.user_admin.proofs.Marking.{no_failure_by, nothing_by}
+use Rattle.user_admin.proofs.Operating.{read_more}
 use Rattle.user_admin.proofs.Spelling.{always_spellable, granted_spellable}
 
 -- one entry more
@@ -140,12 +142,16 @@ module _ {D : Type 0} (told : Type 0) (state : D → DiskState) (o : Opening) (s
   pub after_doubt : (file : List ℕ) → IsOldOrDoubted s.journal.1.shape (shelf_users o.shelf) (users_after o h) doubt file → IsFileAfter o h file
   after_doubt file is = ⊎_elim (λ old. inl (as_old file old)) (λ more. inr (by_history file more)) is
 
-  pub stands_at : s.lists.value.users ≡ users_after o h → IsLegal o h → min (o.faults + failures h) last ≤ (state s.journal.0).faults → SpendsOf o (room_in h) (state s.journal.0) → IsPaid o h → AreSpellable (shelf_users o.shelf) (users_after o h) → StandsFor told state o s h
-  stands_at users legal faults spends paid spellable = record {
+  images_after : told → Leaves (state s.journal.0) (IsFileAfter o h)
+  images_after t file image = after_doubt file (home_images told (state s.journal.0) s.journal.1 (shelf_users o.shelf) (users_after o h) doubt home t whole file image)
+
+  pub stands_at : s.lists.value.users ≡ users_after o h → IsLegal o h → min (o.faults + failures h) last ≤ (state s.journal.0).faults → SpendsOf o (room_in h) (state s.journal.0) → IsPaid o h → AreSpellable (shelf_users o.shelf) (users_after o h)
+      → (told → Leaves (state s.journal.0) (IsFileAfter o h) → HasRead o h (state s.journal.0)) → StandsFor told state o s h
+  stands_at users legal faults spends paid spellable read = record {
     users = users;
     legal = legal;
     reads = λ t. ⊎_elim (λ old. inl (as_old (state s.journal.0).reads_as old)) (λ more. inr (by_history (state s.journal.0).reads_as more.0, more.1)) (home_reads told (state s.journal.0) s.journal.1 (shelf_users o.shelf) (users_after o h) doubt home t whole (disk t));
-    images = λ t file image. after_doubt file (home_images told (state s.journal.0) s.journal.1 (shelf_users o.shelf) (users_after o h) doubt home t whole file image);
+    images = images_after;
     faults = faults;
     spends = spends;
     paid = paid;
@@ -155,16 +161,18 @@ module _ {D : Type 0} (told : Type 0) (state : D → DiskState) (o : Opening) (s
     doubt = doubt;
     doubted = doubted;
     home = home;
+    read = λ t. read t (images_after t);
   }
 
 -- the operation's entry
 pub entered : {D : Type 0} (told : Type 0) (state : D → DiskState) (o : Opening) (s : UserState D) (h : List UserEntry) (e : UserEntry) → (told → IsDisk (state s.journal.0)) → IsOfShelf o s → IsWhole s.journal.1 → (doubt : Option UserChange) → ((c : UserChange) → doubt ≡ Some c → IsInDoubt o (h ++ e ∷ []) c)
     → IsAtHome told (state s.journal.0) s.journal.1 (shelf_users o.shelf) (after (change_in e.outcome) (users_after o h)) doubt → s.lists.value.users ≡ after (change_in e.outcome) (users_after o h) → IsLegal o h → MayCome o.shelf.sid e.op (users_after o h) e.outcome
-    → min (o.faults + failures (h ++ e ∷ [])) last ≤ (state s.journal.0).faults → SpendsOf o (room_in (h ++ e ∷ [])) (state s.journal.0) → CountsOn (state s.journal.0) → AreSpellable (shelf_users o.shelf) (after (change_in e.outcome) (users_after o h)) → StandsFor told state o s (h ++ e ∷ [])
-entered told state o s h e disk of_shelf whole doubt doubted home users legal may faults spends counts spellable =
+    → min (o.faults + failures (h ++ e ∷ [])) last ≤ (state s.journal.0).faults → SpendsOf o (room_in (h ++ e ∷ [])) (state s.journal.0) → CountsOn (state s.journal.0) → AreSpellable (shelf_users o.shelf) (after (change_in e.outcome) (users_after o h))
+    → (told → Leaves (state s.journal.0) (IsFileAfter o (h ++ e ∷ [])) → HasRead o (h ++ e ∷ []) (state s.journal.0)) → StandsFor told state o s (h ++ e ∷ [])
+entered told state o s h e disk of_shelf whole doubt doubted home users legal may faults spends counts spellable read =
     let more = sym (users_more o h e) in
     stands_at told state o s (h ++ e ∷ []) disk of_shelf whole doubt doubted (subst (λ (m : Users). IsAtHome told (state s.journal.0) s.journal.1 (shelf_users o.shelf) m doubt) more home)
-    (users ∙ more) (legal_more o h e legal may) faults spends (paid_counted o (h ++ e ∷ []) (state s.journal.0) counts faults spends) (subst (λ (m : Users). AreSpellable (shelf_users o.shelf) m) more spellable)
+    (users ∙ more) (legal_more o h e legal may) faults spends (paid_counted o (h ++ e ∷ []) (state s.journal.0) counts faults spends) (subst (λ (m : Users). AreSpellable (shelf_users o.shelf) m) more spellable) read
 
 -- what holds of each cause of the users holds of the first
 module _ (P : Cause → Type 0) (there : P UserThere) (full : P UsersFull) (unknown : P UnknownUser) (last_s : P LastOfClassS) (identity : P BadIdentity) where
@@ -239,6 +247,23 @@ module _ {D : Type 0} (told : Type 0) (state : D → DiskState) (o : Opening) (s
     few = subst (λ (m : Users). len m ≤ most_users) (sym st.users) (limit_kept_always o h st.legal st.of_shelf.few);
   }
 
+  -- as it reads it stands for them
+  reads_after : told → IsFileAfter o h (state s.journal.0).reads_as
+  reads_after x = ⊎_elim (λ old. inl old) (λ more. inr more.0) (st.reads x)
+
+  -- one that made calls
+  read_calls : (told → IsDisk (state s.journal.0)) → (new : DiskState) → (told → IsDisk new) → (e : UserEntry) → (told → LeavesOnly (state s.journal.0) new (MayBe o h e.op)) → (told → IsSynced new ⊎ ((c : UserChange) × IsInDoubt o (h ++ e ∷ []) c))
+      → told → Leaves new (IsFileAfter o (h ++ e ∷ [])) → HasRead o (h ++ e ∷ []) new
+  read_calls disk new disk_now e left synced x images = read_more o h (state s.journal.0) (disk x) (st.read x) new (disk_now x) e (left x) (reads_after x) images (synced x)
+
+  -- no call
+  pub none_left : told → IsDisk (state s.journal.0) → (op : UserOp) → LeavesOnly (state s.journal.0) (state s.journal.0) (MayBe o h op)
+  none_left x disk op = none_only (state s.journal.0) (MayBe o h op) disk (λ file image. inl (st.images x file image))
+
+  -- an operation that made none, and no change
+  read_none : (told → IsDisk (state s.journal.0)) → (e : UserEntry) → change_in e.outcome ≡ [] → told → Leaves (state s.journal.0) (IsFileAfter o (h ++ e ∷ [])) → HasRead o (h ++ e ∷ []) (state s.journal.0)
+  read_none disk e none = read_calls disk (state s.journal.0) disk e (λ x. none_left x (disk x) e.op) (λ x. ⊎_elim (λ synced. inl synced) (λ doubt. inr (doubt.0, doubt_more o h e doubt.0 none doubt.1)) (st.read x).synced)
+
   pub granted_at : (op : UserOp) (c : UserChange) → Grants s.sid op s.lists.value.users c → Grants o.shelf.sid op (users_after o h) c
   granted_at op c granted = subst (λ (w : List ℕ × Users). Grants w.0 op w.1 c) (λ i. (st.of_shelf.sid i, st.users i)) granted
 
@@ -264,6 +289,11 @@ module _ {D : Type 0} (told : Type 0) (state : D → DiskState) (o : Opening) (s
         (users ∙ st.users) st.legal
         (subst (λ (j : D × Book). min (o.faults + failures h) last ≤ (state j.0).faults) (sym journal) st.faults)
         (subst (λ (j : D × Book). SpendsOf o (room_in h) (state j.0)) (sym journal) st.spends) st.paid st.spellable
+        (λ x images. subst (λ (j : D × Book). HasRead o h (state j.0)) (sym journal) (st.read x))
+
+    -- no call was made for it
+    read_still : (e : UserEntry) → change_in e.outcome ≡ [] → t.journal ≡ s.journal → told → Leaves (state t.journal.0) (IsFileAfter o (h ++ e ∷ [])) → HasRead o (h ++ e ∷ []) (state t.journal.0)
+    read_still e none journal x = subst (λ (j : D × Book). Leaves (state j.0) (IsFileAfter o (h ++ e ∷ [])) → HasRead o (h ++ e ∷ []) (state j.0)) (sym journal) (read_none (λ y. subst (λ (j : D × Book). IsDisk (state j.0)) journal (disk y)) e none x)
 
     -- the users deny it
     pub was_denied : (n : ℕ) (op : UserOp) (q : Cause) → Refuses op s.lists.value.users q → t.lists.value.users ≡ s.lists.value.users → t.journal ≡ s.journal → StandsFor told state o t (h ++ entry n op (refused q) ∷ [])
@@ -276,18 +306,20 @@ module _ {D : Type 0} (told : Type 0) (state : D → DiskState) (o : Opening) (s
         (users ∙ st.users) st.legal denial
         (same_faults o.faults (state s.journal.0).faults (state t.journal.0).faults h e refl st.faults (subst (λ (j : D × Book). (state s.journal.0).faults ≤ (state j.0).faults) (sym journal) (omega arith)))
         (subst (λ (j : D × Book). SpendsOf o (room_in (h ++ e ∷ [])) (state j.0)) (sym journal) (spends_more o h e (state s.journal.0) (state s.journal.0) st.spends (spends_none 0 (state s.journal.0))))
-        counts st.spellable)
+        counts st.spellable (read_still e refl journal))
 
     -- the disk stood against it
     pub has_failed : (n : ℕ) (op : UserOp) (c : UserChange) → Grants s.sid op s.lists.value.users c → t.lists.value.users ≡ s.lists.value.users
         → ((doubt : Option UserChange) → IsAtHome told (state s.journal.0) s.journal.1 s.lists.value.described s.lists.value.users doubt → IsAtHome told (state t.journal.0) t.journal.1 s.lists.value.described s.lists.value.users doubt ⊎ IsAtHome told (state t.journal.0) t.journal.1 s.lists.value.described s.lists.value.users (Some c))
-        → Rose (state s.journal.0).faults (state t.journal.0).faults → Spends most_room (state s.journal.0) (state t.journal.0) → StandsFor told state o t (h ++ entry n op (Failed DiskFault) ∷ [])
-    has_failed n op c is users keeps rose spent =
+        → Rose (state s.journal.0).faults (state t.journal.0).faults → Spends most_room (state s.journal.0) (state t.journal.0)
+        → (told → IsDisk (state s.journal.0)) → (told → LeavesOnly (state s.journal.0) (state t.journal.0) (MayBe o h op)) → StandsFor told state o t (h ++ entry n op (Failed DiskFault) ∷ [])
+    has_failed n op c is users keeps rose spent was_disk left =
         let granted = granted_at op c is in
         let e : UserEntry = entry n op (Failed DiskFault) in
         let build : (doubt : Option UserChange) → ((d : UserChange) → doubt ≡ Some d → IsInDoubt o (h ++ e ∷ []) d) → IsAtHome told (state t.journal.0) t.journal.1 s.lists.value.described s.lists.value.users doubt → StandsFor told state o t (h ++ e ∷ []) = λ doubt doubted home.
         entered told state o t h e disk of_shelf_on whole doubt doubted (home_by s.lists.value.users (users_after o h) doubt st.users home) (users ∙ st.users) st.legal (refl, (c, granted))
-        (one_fault o.faults (state s.journal.0).faults (state t.journal.0).faults h e refl st.faults rose) (spends_more o h e (state s.journal.0) (state t.journal.0) st.spends spent) counts st.spellable in
+        (one_fault o.faults (state s.journal.0).faults (state t.journal.0).faults h e refl st.faults rose) (spends_more o h e (state s.journal.0) (state t.journal.0) st.spends spent) counts st.spellable
+        (read_calls was_disk (state t.journal.0) disk e left (λ x. inr (c, doubt_own o h n op c granted))) in
         ⊎_elim
         (λ home. build st.doubt (λ d asked. doubt_more o h e d refl (st.doubted d asked)) home)
         (λ home. build (Some c) (λ d asked. subst (λ (x : UserChange). IsInDoubt o (h ++ e ∷ []) x) (same_some _ _ asked) (doubt_own o h n op c granted)) home)
@@ -296,8 +328,9 @@ module _ {D : Type 0} (told : Type 0) (state : D → DiskState) (o : Opening) (s
     -- it was done
     pub was_done : (n : ℕ) (op : UserOp) (c : UserChange) → NamesUid op → Grants s.sid op s.lists.value.users c → t.lists.value.users ≡ effect c s.lists.value.users
         → ((doubt then_doubt : Option UserChange) → IsAtHome told (state s.journal.0) s.journal.1 s.lists.value.described s.lists.value.users doubt → IsAtHome told (state t.journal.0) t.journal.1 s.lists.value.described (effect c s.lists.value.users) then_doubt)
-        → (state s.journal.0).faults ≤ (state t.journal.0).faults → Spends most_room (state s.journal.0) (state t.journal.0) → StandsFor told state o t (h ++ entry n op (Done c) ∷ [])
-    was_done n op c named is users keeps later spent =
+        → (state s.journal.0).faults ≤ (state t.journal.0).faults → Spends most_room (state s.journal.0) (state t.journal.0)
+        → (told → IsDisk (state s.journal.0)) → (told → LeavesOnly (state s.journal.0) (state t.journal.0) (MayBe o h op)) → (told → IsSynced (state t.journal.0)) → StandsFor told state o t (h ++ entry n op (Done c) ∷ [])
+    was_done n op c named is users keeps later spent was_disk left synced =
         let granted = granted_at op c is in
         let e : UserEntry = entry n op (Done c) in
         entered told state o t h e disk of_shelf_on whole None (λ d asked. absurd (none_some d asked))
@@ -305,6 +338,7 @@ module _ {D : Type 0} (told : Type 0) (state : D → DiskState) (o : Opening) (s
         (users ∙ ap (effect c) st.users) st.legal granted
         (same_faults o.faults (state s.journal.0).faults (state t.journal.0).faults h e refl st.faults later) (spends_more o h e (state s.journal.0) (state t.journal.0) st.spends spent) counts
         (always_spellable (shelf_users o.shelf) c (users_after o h) st.spellable (granted_spellable (shelf_users o.shelf) o.shelf.sid op (users_after o h) c st.spellable named granted))
+        (read_calls was_disk (state t.journal.0) disk e left (λ x. inl (synced x)))
 
     -- it only read
     pub was_read : (n : ℕ) (op : UserOp) → IsReading op → refusal op s.lists.value.users ≡ None → t.lists.value.users ≡ s.lists.value.users → t.journal ≡ s.journal → StandsFor told state o t (h ++ entry n op Answered ∷ [])
@@ -315,23 +349,19 @@ module _ {D : Type 0} (told : Type 0) (state : D → DiskState) (o : Opening) (s
         (users ∙ st.users) st.legal (reads, ap (refusal op) (sym st.users) ∙ allowed)
         (same_faults o.faults (state s.journal.0).faults (state t.journal.0).faults h e refl st.faults (subst (λ (j : D × Book). (state s.journal.0).faults ≤ (state j.0).faults) (sym journal) (omega arith)))
         (subst (λ (j : D × Book). SpendsOf o (room_in (h ++ e ∷ [])) (state j.0)) (sym journal) (spends_more o h e (state s.journal.0) (state s.journal.0) st.spends (spends_none 0 (state s.journal.0))))
-        counts st.spellable
+        counts st.spellable (read_still e refl journal)
 
   -- at any moment of a change
   pub change_left : (op : UserOp) (c : UserChange) (new : DiskState) → Grants s.sid op s.lists.value.users c
       → ((doubt : Option UserChange) → IsAtHome told (state s.journal.0) s.journal.1 s.lists.value.described s.lists.value.users doubt → LeavesOnly (state s.journal.0) new (IsOldOrOneMore s.journal.1.shape s.lists.value.described s.lists.value.users doubt c))
-      → (told → IsDisk (state s.journal.0)) → LeavesOnly (state s.journal.0) new (λ file. IsFileAfter o h file ⊎ IsFileWithChange o h op file)
+      → (told → IsDisk (state s.journal.0)) → LeavesOnly (state s.journal.0) new (MayBe o h op)
   change_left op c new is left disk =
-      only_weaker (state s.journal.0) new (IsOldOrOneMore s.journal.1.shape (shelf_users o.shelf) (users_after o h) st.doubt c) (λ file. IsFileAfter o h file ⊎ IsFileWithChange o h op file)
+      only_weaker (state s.journal.0) new (IsOldOrOneMore s.journal.1.shape (shelf_users o.shelf) (users_after o h) st.doubt c) (MayBe o h op)
       (λ file one. ⊎_elim
       (λ old. inl (after_doubt told state o s h disk st.of_shelf st.book st.doubt st.doubted st.home file old))
       (λ more. inr (c, granted_at op c is, subst (λ (d : Dimensions). IsFileOn d (shelf_users o.shelf) (effect c (users_after o h)) file) st.of_shelf.shape more))
       one)
       (subst (λ (w : Users × Users). LeavesOnly (state s.journal.0) new (IsOldOrOneMore s.journal.1.shape w.0 w.1 st.doubt c)) (λ i. (st.of_shelf.described i, st.users i)) (left st.doubt (home_at st.doubt st.home)))
-
-  -- no call
-  pub none_left : told → IsDisk (state s.journal.0) → (op : UserOp) → LeavesOnly (state s.journal.0) (state s.journal.0) (λ file. IsFileAfter o h file ⊎ IsFileWithChange o h op file)
-  none_left x disk op = none_only (state s.journal.0) (λ file. IsFileAfter o h file ⊎ IsFileWithChange o h op file) disk (λ file image. inl (st.images x file image))
 
 -- An entry that changes nothing, and several.
 module _ {D : Type 0} (told : Type 0) (state : D → DiskState) (o : Opening) (s : UserState D) (disk : told → IsDisk (state s.journal.0)) (counts : CountsOn (state s.journal.0)) where
@@ -342,7 +372,7 @@ module _ {D : Type 0} (told : Type 0) (state : D → DiskState) (o : Opening) (s
       (subst (λ (m : Users). IsAtHome told (state s.journal.0) s.journal.1 (shelf_users o.shelf) m st.doubt) same st.home) (st.users ∙ same) st.legal may
       (same_faults o.faults (state s.journal.0).faults (state s.journal.0).faults h e sound st.faults (omega arith))
       (spends_more o h e (state s.journal.0) (state s.journal.0) st.spends (spends_none (cost e.outcome) (state s.journal.0)))
-      counts (subst (λ (m : Users). AreSpellable (shelf_users o.shelf) m) same st.spellable)
+      counts (subst (λ (m : Users). AreSpellable (shelf_users o.shelf) m) same st.spellable) (read_none told state o s h st disk e none)
 
   pub passed_one : (h : List UserEntry) (e : UserEntry) → PassesBy e.outcome → StandsFor told state o s h → MayCome o.shelf.sid e.op (users_after o h) e.outcome → StandsFor told state o s (h ++ e ∷ [])
   passed_one h e passes st may = idle h e (nothing_by e.outcome passes) (no_failure_by e.outcome passes) st may

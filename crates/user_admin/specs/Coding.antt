@@ -10,7 +10,7 @@ use Rattle.user_admin.specs.Users.{Users}
 use Rattle.user_admin.specs.Histories.{Opening}
 
 abbrev pub opening_coded : Coded Opening
-opening_coded = code_by (Contents × (List (List ℕ) × (Users × (ℕ × (ℕ × ℕ))))) (coded× shelf_row.the_row.coded (coded× (coded_list (coded_list coded_ℕ)) (coded× table_row.the_row.coded (coded× coded_ℕ (coded× coded_ℕ coded_ℕ))))) (λ o. (o.shelf, (o.records, (o.users, (o.faults, (o.margin, o.room)))))) (λ p. record { shelf = p.0; records = p.1.0; users = p.1.1.0; faults = p.1.1.1.0; margin = p.1.1.1.1.0; room = p.1.1.1.1.1 }) (λ _. refl)
+opening_coded = code_by (Contents × (List (List ℕ) × (Users × (List (List ℕ) × (ℕ × (ℕ × ℕ)))))) (coded× shelf_row.the_row.coded (coded× (coded_list (coded_list coded_ℕ)) (coded× table_row.the_row.coded (coded× (coded_list (coded_list coded_ℕ)) (coded× coded_ℕ (coded× coded_ℕ coded_ℕ)))))) (λ o. (o.shelf, (o.records, (o.users, (o.readings, (o.faults, (o.margin, o.room))))))) (λ p. record { shelf = p.0; records = p.1.0; users = p.1.1.0; readings = p.1.1.1.0; faults = p.1.1.1.1.0; margin = p.1.1.1.1.1.0; room = p.1.1.1.1.1.1 }) (λ _. refl)
 
 abbrev pub mark_coded : Coded UserMark
 mark_coded = mark_row.the_row.coded

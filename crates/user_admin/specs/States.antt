@@ -2,7 +2,7 @@
 use Rattle.std.specs.Prelude.{◌≡◌, ◌⊎◌, ℕ, ◌+◌, ◌-◌, ◌≤◌, ◌<◌, min, true, List, [], ◌∷◌, ◌++◌, length, replicate, Option, Some, Result, Ok, Err}
 use Rattle.std.specs.FinMap.{len}
 use Rattle.dxc_causes.specs.Causes.{last}
-use Rattle.dxc_disk.specs.Disks.{DiskState, Leaves}
+use Rattle.dxc_disk.specs.Disks.{DiskState, Leaves, files}
 use Rattle.dxc_disk.specs.declared.disk.Disk.{Ghosts as DiskOf}
 use Rattle.dxc_disk.specs.declared.disk.DiskFault.{DiskFault as Fault}
 use Rattle.dxc_model.specs.declared.cause.Cause.{Cause}
@@ -20,24 +20,25 @@ use Rattle.user_admin.specs.declared.op.UserOutcome.TheVariants.{Done, Denied, F
 use Rattle.user_admin.specs.declared.state.UserOrigin.{UserOrigin}
 use Rattle.user_admin.specs.declared.state.UserState.{UserState}
 use Rattle.user_admin.specs.Users.{shelf_users}
-use Rattle.user_admin.specs.Changes.{effect, most_users}
+use Rattle.user_admin.specs.Changes.{most_users}
 use Rattle.user_admin.specs.Verdicts.{Grants}
 use Rattle.tl1_users.specs.Commands.{NamesUid}
 use Rattle.user_admin.specs.Spellable.{AreDescribed, AreSpellable}
-use Rattle.user_admin.specs.Files.{IsFileOn}
 use Rattle.user_admin.specs.Journals.{IsAtHome}
 use Rattle.user_admin.specs.Histories.{IsInDoubt, IsLegal, Opening, failures, users_after}
+use Rattle.user_admin.specs.Operations.{HasRead, IsFileAfter, IsFileOf, IsFileWithDoubt}
 
 -- the records that a journal lists; of a disk that doesn't tell its content only their number counts
 abbrev pub recorded : Book → List ℕ → List (List ℕ)
 recorded book file = listed book file ++ replicate (book.count - length (listed book file)) []
 
--- the opening that is kept as snapshots of shelf, users and journal
+-- the opening that is kept as snapshots of shelf, disk, users and journal
 abbrev pub opening_in : {D : Type 0} → (D → DiskState) → UserOrigin D → Opening
 opening_in state o = record {
   shelf = o.shelf.value;
   records = recorded o.journal.value.1 (state o.journal.value.0).reads_as;
   users = o.users.value;
+  readings = files (state o.disk.value).readings;
   faults = (state o.journal.value.0).faults;
   margin = (state o.journal.value.0).margin;
   room = (state o.journal.value.0).room;
@@ -46,21 +47,6 @@ opening_in state o = record {
 -- the opening that a state keeps
 abbrev pub opening_of : {D : Type 0} → (D → DiskState) → UserState D → Opening
 opening_of state s = opening_in state s.origin
-
--- a file stands for the users after the history, or for these after the change in doubt
-abbrev pub IsFileOf : Opening → List UserEntry → List ℕ → Type 0
-IsFileOf o h = IsFileOn o.shelf.shape (shelf_users o.shelf) (users_after o h)
-
-abbrev pub IsFileWithDoubt : Opening → List UserEntry → List ℕ → Type 0
-IsFileWithDoubt o h file = (c : UserChange) × IsInDoubt o h c × IsFileOn o.shelf.shape (shelf_users o.shelf) (effect c (users_after o h)) file
-
--- or for these after the operation's change
-abbrev pub IsFileWithChange : Opening → List UserEntry → UserOp → List ℕ → Type 0
-IsFileWithChange o h op file = (c : UserChange) × Grants o.shelf.sid op (users_after o h) c × IsFileOn o.shelf.shape (shelf_users o.shelf) (effect c (users_after o h)) file
-
--- what a crash may leave, while nothing is called
-abbrev pub IsFileAfter : Opening → List UserEntry → List ℕ → Type 0
-IsFileAfter o h file = IsFileOf o h file ⊎ IsFileWithDoubt o h file
 
 -- the most of a disk's room that a change takes: 3 to mend, 4,207,144 for a checkpoint and 69 for the record
 abbrev pub most_room : ℕ
@@ -122,6 +108,7 @@ module _ {D : Type 0} (told : Type 0) (state : D → DiskState) where
     pub doubt : Option UserChange
     pub doubted : (c : UserChange) → doubt ≡ Some c → IsInDoubt o h c
     pub home : IsAtHome told (state s.journal.0) s.journal.1 (shelf_users o.shelf) (users_after o h) doubt
+    pub read : told → HasRead o h (state s.journal.0)
 
   -- from its own opening on
   abbrev pub Stands : UserState D → List UserEntry → Type 0

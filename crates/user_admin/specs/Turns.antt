@@ -1,5 +1,5 @@
 -- What a place knows of the users' history, and what its turns come to.
-use Rattle.std.specs.Prelude.{◌≡◌, ◌≢◌, ◌<◌, ℕ, Bool, true, List, [], ◌∷◌, ◌++◌, map, Option, Some, None, Result, Ok, Err, MatchResult}
+use Rattle.std.specs.Prelude.{◌≡◌, ◌≢◌, ℕ, Bool, List, ◌++◌, map, Option, Some, None, Result, Ok, Err, MatchResult}
 use base.Stored.{Gv}
 use Rattle.turnstile.specs.Passing.{TurnstileView, Token}
 use Rattle.turnstile.specs.Places.{AfterBy, AreNumberedBy, HasPassBy, HasSeenBy, KeepsPassBy, TurnedBackBy, TurnedBy, ViewOf, view_of}

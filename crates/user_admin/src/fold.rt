@@ -1,7 +1,7 @@
 //! The users that a journal's records lead to.
 ghost use Rattle.std.specs.Prelude.{◌≡◌, ℕ, List, length, IfOk, IsErrOf, OnErr, OnOk};
 ghost use Rattle.dxc_causes.specs.Causes.{HasCause};
-ghost use Rattle.dxc_disk.specs.Disks.{IsSound, Looks, Spends};
+ghost use Rattle.dxc_disk.specs.Disks.{IsSound, Looks, ReadsNoMore, Spends};
 ghost use Rattle.journal_core.specs.Books.{IsKept, listed};
 ghost use Rattle.user_admin.specs.declared.op.UserChange.{UserChange as Change};
 ghost use Rattle.user_admin.specs.Changes.{Fits, effect};
@@ -50,6 +50,7 @@ pub(crate) fn fold<D: Disk>(journal: &mut Journal<D>, lists: &mut Lists) -> Resu
         × (D.told → records ≡ listed journal.old.1 (D.state journal.old.0).reads_as)
         × FoldsTo lists.old.described records lists.new.users) }
     ensures looks { D.told → Looks (D.state journal.old.0) (D.state journal.new.0) }
+    ensures no_more { D.told → ReadsNoMore (D.state journal.old.0) (D.state journal.new.0) }
     ensures same { journal.new.1 ≡ journal.old.1 }
     ensures kept { D.told → IsKept (D.state journal.old.0) journal.old.1
         → IsKept (D.state journal.new.0) journal.new.1 }

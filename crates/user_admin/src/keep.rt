@@ -2,7 +2,7 @@
 ghost use Rattle.std.specs.Prelude.{◌≡◌, ◌⊎◌, ◌≤◌, false, Option, Some, OnErr, OnOk, IsErr};
 ghost use Rattle.std.specs.FinMap.{len};
 ghost use Rattle.dxc_causes.specs.Causes.{HasCause};
-ghost use Rattle.dxc_disk.specs.Disks.{IsSound, LeavesOnly, Spends};
+ghost use Rattle.dxc_disk.specs.Disks.{IsSound, IsSynced, LeavesOnly, Spends};
 ghost use Rattle.journal_core.specs.Books.{IsReady, IsWhole};
 ghost use Rattle.user_admin.specs.declared.op.UserChange.{UserChange as Change};
 ghost use Rattle.user_admin.specs.Changes.{Fits, effect, most_users};
@@ -74,6 +74,8 @@ pub(crate) fn keep<D: Disk>(
         → IsHome D.Disk journal.old (lists described.now users.now) doubt
         → IsHome D.Disk journal.new (lists described.now users.now) doubt
         ⊎ IsHome D.Disk journal.new (lists described.now users.now) (Some change.now)) }
+    // The last that its disk did is then a sync.
+    ensures synced { D.told → OnOk result (IsSynced (D.state journal.new.0)) }
     ensures shape { journal.new.1.shape ≡ journal.old.1.shape }
     ensures equipped { journal.new.1.head.equipped ≡ journal.old.1.head.equipped }
     ensures book { IsWhole journal.new.1 }

@@ -1,9 +1,9 @@
 //! The state of the users: who they are, and their journal.
-ghost use Rattle.std.specs.Prelude.{◌≡◌, ◌≢◌, ◌≤◌, ◌<◌, ◌⊎◌, ℕ, List, [], None, false, length, option_map, slice_get, MatchResult, Some, IfErr, IfOk, IfSome, IsErr, Ok};
+ghost use Rattle.std.specs.Prelude.{◌≡◌, ◌≢◌, ◌≤◌, ◌<◌, ℕ, List, [], None, false, length, option_map, slice_get, MatchResult, Some, IfErr, IfOk, IfSome, IsErr, Ok};
 ghost use Rattle.std.specs.FinMap.{entries};
 ghost use Rattle.dxc_causes.specs.Causes.{HasCause};
 ghost use Rattle.dxc_causes.specs.Stops.{RoseOnlyFor};
-ghost use Rattle.dxc_disk.specs.Disks.{IsSound, LeavesOnly, Spends};
+ghost use Rattle.dxc_disk.specs.Disks.{IsSound, LeavesOnly, Spends, files};
 ghost use Rattle.journal_core.specs.Books.{IsReady};
 ghost use Rattle.user_admin.specs.declared.op.UserEntry.{UserEntry as Entry};
 ghost use Rattle.user_admin.specs.Histories.{Opening};
@@ -11,7 +11,8 @@ ghost use Rattle.user_admin.specs.Openings.{Begins, Fails, IsDiskErr, IsOpening,
 ghost use Rattle.tl1_users.specs.Commands.{NamesUid};
 ghost use Rattle.user_admin.specs.Users.{shelf_users};
 ghost use Rattle.tl1_users.specs.declared.op.UserOp.{UserOp as Op};
-ghost use Rattle.user_admin.specs.States.{Answers, IsFileAfter, IsFileWithChange, IsNoted, MayNote, StandsFor, asked_after, opening_of};
+ghost use Rattle.user_admin.specs.Operations.{MayBe};
+ghost use Rattle.user_admin.specs.States.{Answers, IsNoted, MayNote, StandsFor, asked_after, opening_of};
 ghost use Rattle.user_admin.specs.Verdicts.{Grants, IsChanging, login, refusal, rows_in};
 
 use crate::fault::UserOpenFault;
@@ -38,10 +39,12 @@ pub struct Lists {
     pub(crate) users: UserTable,
 }
 
-/// Where the users' history begins: the shelf, the users and their journal as it was opened. It has no bytes; contracts alone read it.
+/// Where the users' history begins: the shelf, the journal's disk as it was handed out, and the users and their journal as it was opened. It has no
+/// bytes; contracts alone read it.
 #[derive(Drop)]
 pub struct UserOrigin<D: Disk> {
     pub(crate) shelf: Snapshot<Shelf>,
+    pub(crate) disk: Snapshot<D>,
     pub(crate) users: Snapshot<UserTable>,
     pub(crate) journal: Snapshot<Journal<D>>,
 }
@@ -66,13 +69,20 @@ pub(crate) fn copy_of(sid: &Sid) -> Sid
 
 impl<D: Disk> UserOrigin<D> {
     // Where the users begin.
-    fn of(shelf: &Shelf, users: &UserTable, journal: &Journal<D>) -> UserOrigin<D>
+    fn of(
+        shelf: &Shelf,
+        disk: Snapshot<D>,
+        users: &UserTable,
+        journal: &Journal<D>,
+    ) -> UserOrigin<D>
         ensures shelf { result.shelf.value ≡ shelf.now }
+        ensures disk { result.disk ≡ disk }
         ensures users { result.users.value ≡ users.now }
         ensures journal { result.journal.value ≡ journal.now }
     {
         UserOrigin {
             shelf: Snapshot::of(shelf),
+            disk,
             users: Snapshot::of(users),
             journal: Snapshot::of(journal),
         }
@@ -110,6 +120,8 @@ impl<D: Disk + Drop> UserState<D> {
     pub fn open(alloc: Global, shelf: &Shelf, disk: D) -> Result<UserState<D>, UserOpenFault<D>>
         ensures ok { IfOk result (λ s. IsOpening D.told (D.state disk).reads_as shelf.now
             (opening_of D.state s) × Begins D.told D.state s) }
+        ensures handed { IfOk result
+            (λ s. (opening_of D.state s).readings ≡ files (D.state disk).readings) }
         ensures fails { D.told → IfErr result (Fails D.state (D.state disk) shelf.now) }
         // Of whatever disk is left, where memory was wanting too.
         ensures any_moment { D.told
@@ -123,6 +135,7 @@ impl<D: Disk + Drop> UserState<D> {
             return Err(UserOpenFault::NoMemory(disk));
         };
         let sid = copy_of(shelf.sid());
+        let handed = Snapshot::of(&disk);
         let mut journal = match Journal::open(disk, shelf.shape(), shelf.equipped()) {
             Ok(journal) => journal,
             Err(fault) => return Err(UserOpenFault::Journal(fault)),
@@ -134,7 +147,7 @@ impl<D: Disk + Drop> UserState<D> {
             Ok(()) => {}
             Err(fault) => return Err(unread(fault, journal)),
         }
-        let origin = UserOrigin::of(shelf, &lists.users, &journal);
+        let origin = UserOrigin::of(shelf, handed, &lists.users, &journal);
         Ok(UserState {
             sid,
             lists,
@@ -167,7 +180,7 @@ impl<D: Disk> UserState<D> {
         ensures any_moment { D.told → (o : Opening) → (h : List Entry)
             → StandsFor D.told D.state o self.old h
             → LeavesOnly (D.state self.old.journal.0) (D.state self.new.journal.0)
-            (λ file. IsFileAfter o h file ⊎ IsFileWithChange o h op.now file) }
+            (MayBe o h op.now) }
         ensures stopped { RoseOnlyFor (G.stops gate.old) (G.stops gate.new) (IsErr result) }
         ensures asked { G.asked gate.old gate.new (asked_at result) }
         ensures fault { HasCause (D.state self.old.journal.0).faults
@@ -203,7 +216,7 @@ impl<D: Disk> UserState<D> {
             → StandsFor D.told D.state o self.old h
             → Grants self.old.sid op self.old.lists.value.users change.now
             → LeavesOnly (D.state self.old.journal.0) (D.state self.new.journal.0)
-            (λ file. IsFileAfter o h file ⊎ IsFileWithChange o h op file) }
+            (MayBe o h op) }
         ensures fault { HasCause (D.state self.old.journal.0).faults
             (D.state self.new.journal.0).faults (IsErr result) }
         ensures room { Spends 4_207_216 (D.state self.old.journal.0) (D.state self.new.journal.0) }

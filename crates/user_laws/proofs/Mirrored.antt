@@ -1,149 +1,136 @@
--- What a file stands for that a primary's disk read at a moment of its commands on users.
-use Rattle.std.proofs.Common.{Bool, ◌≡◌, ◌⊎◌, inl, inr, ⊎_elim, ℕ, zero, suc, ◌+◌, ◌-◌, ◌≤◌, ◌<◌, List, [], ◌∷◌, ◌++◌, length, take, Some, None, IfSome, nat_eq, if◌then◌else◌, slice_get, refl, sym, ◌∙◌, ap, subst, arith, length-append, append_assoc}
+-- What a file stands for that the users' journal's disk has read.
+use Rattle.std.proofs.Common.{◌≡◌, inl, inr, ⊎_elim, ℕ, zero, suc, ◌+◌, ◌-◌, ◌≤◌, ◌<◌, List, [], ◌∷◌, ◌++◌, length, take, Some, None, slice_get, sym, ◌∙◌, ap, subst, arith, length-append, append_assoc}
+use Rattle.std.specs.List.{AllByRecursion}
 use Rattle.std.proofs.lemmas.Bool.{cases_lt}
 use Rattle.std.proofs.lemmas.List.{append-nil}
-use Rattle.std.proofs.Math.Dec.{eqb-suc-zero}
-use Rattle.dxc_disk.specs.Disks.{DiskState, IsDisk, LeavesOnly}
-use Rattle.journal_core.specs.Headers.{IsNew, StandsAlike, header}
-use Rattle.journal_core.specs.Makes.{IsFresh}
-use Rattle.journal_core.specs.Opens.{made_head}
-use Rattle.journal_core.proofs.KeepSteps.{only_weaker}
-use Rattle.journal_core.proofs.OpenSteps.{new_or_not}
-use Rattle.shelf_file.specs.Contents.{Contents}
-use Rattle.standby_link.specs.Calls.{last_of, read_in}
-use Rattle.standby_link.specs.Laws.{KeepsUp}
-use Rattle.standby_link.specs.Mirrors.{Pair, moments}
-use Rattle.standby_link.proofs.ActSteps.{get_front, get_more}
-use Rattle.standby_link.proofs.CallSteps.{moment_left, read_on}
+use Rattle.std.proofs.lemmas.Option.{IfSome_then}
+use Rattle.dxc_disk.specs.Disks.{DiskState, IsDisk, last_read}
+use Rattle.dxc_disk.proofs.ReadingSteps.{last_on}
+use Rattle.standby_link.specs.Mirrored.{CopiesAreReadings, IsReadFrom}
+use Rattle.standby_link.proofs.ActSteps.{get_front}
 use Rattle.user_admin.specs.declared.op.UserEntry.{UserEntry}
 use Rattle.user_admin.specs.declared.state.UserState.{UserState}
-use Rattle.user_admin.specs.Files.{FoldsTo, IsFileOn}
 use Rattle.user_admin.specs.Histories.{Opening}
-use Rattle.user_admin.specs.States.{IsFileAfter, IsFileOf, StandsFor}
-use Rattle.user_admin.specs.Users.{shelf_users}
-use Rattle.user_laws.specs.Mirrorings.{AreCommands, Command, CopiesStand, HasStarted, IsCommand, IsMirroredSince, MayBe, Says, StandbysStand, StandbysStandSince, StandsAt, StandsForFirst, StartsAreCommands, Task, change, entered_in, read_by, start}
+use Rattle.user_admin.specs.Operations.{AreOperations, HasRead, IsFileAfter, MayBe, MayBeAtStart, Operation, StandsAt, entries_in, readings_in}
+use Rattle.user_admin.specs.States.{StandsFor}
+use Rattle.user_admin.proofs.Operating.{read_so_far}
+use Rattle.user_laws.specs.Mirrorings.{CopiesStand, ReadingsStand, StandsForOperations, readings_before}
 
--- a start leaves what stands for the records that it found, or a new file
-module _ (told : Type 0) (t : told) (shelf : Contents) (o : Opening) (old new : DiskState) (x : HasStarted told shelf o [] old new) where
-  folds : FoldsTo (shelf_users shelf) o.records o.users
-  folds = subst (λ (records : List (List ℕ)). FoldsTo (shelf_users shelf) records o.users) (x.opening.folded.same t) x.opening.folded.folds
+-- what holds of all holds of each
+all_at : {A : Type 0} (P : A → Type 0) (xs : List A) (n : ℕ) (x : A) → AllByRecursion P xs → slice_get xs n ≡ Some x → P x
+all_at P [] n x all at = absurd (let e : None ≡ Some x = at in cc)
+all_at P (y ∷ xs) zero x all at = subst P (let e : Some y ≡ Some x = at in cc) all.0
+all_at P (y ∷ xs) (suc n) x all at = all_at P xs n x all.1 at
 
-  module _ (not : IsNew old.reads_as → ⊥) where
-    alike_old : (c : List ℕ) → StandsAlike shelf.shape old.reads_as c → IsFileOf o [] c
-    alike_old c alike =
-        let found = x.opening.found t not in
-        subst (λ (s : Contents). IsFileOn s.shape (shelf_users s) o.users c) (sym x.opening.shelf_is) (record { head = found.0; records = o.records; stands = alike found.0 o.records found.1; folds = folds })
+-- behind some files the last of them is the first
+behind : (file : List ℕ) (fs gs : List (List ℕ)) (n : ℕ) → slice_get (file ∷ (fs ++ gs)) (length fs + n) ≡ slice_get (last_read file fs ∷ gs) n
+behind file [] gs n = ap (slice_get (file ∷ gs)) (let none : 0 + n ≡ n = omega arith in none)
+behind file (f ∷ fs) gs n = ap (slice_get (file ∷ (f ∷ (fs ++ gs)))) (let one : suc (length fs) + n ≡ suc (length fs + n) = omega arith in one) ∙ behind f fs gs n
 
-    found_old : (c : List ℕ) → old.may_leave c ⊎ StandsAlike shelf.shape old.reads_as c → IsFileOf o [] c
-    found_old c either = ⊎_elim
-        (λ image. subst (λ (f : List ℕ). IsFileOf o [] f) (sym (x.settled c image)) (alike_old old.reads_as (λ e records stands. stands)))
-        (λ alike. alike_old c alike)
-        either
+-- Operations after this history, what was read last before them and this file, which stands for one of them and the users before it.
+module _ (o : Opening) where
+  record Found (h : List UserEntry) (ps : List Operation) (by : ℕ) (file : List ℕ) : Type 0 where
+    pub number : ℕ
+    pub holds : (n : ℕ) → n ≤ length ps → length (readings_in (take n ps)) ≤ by → n ≤ number
+    pub stands : StandsAt o (h ++ entries_in (take number ps)) (slice_get ps number) file
 
-  start_left : LeavesOnly old new (MayBe o [] (start shelf))
-  start_left = ⊎_elim
-      (λ is. only_weaker old new (IsFresh (header shelf.shape (made_head shelf.equipped))) (MayBe o [] (start shelf)) (λ c fresh. inr fresh) (x.leaves.made is x.settled))
-      (λ not. only_weaker old new (λ c. old.may_leave c ⊎ StandsAlike shelf.shape old.reads_as c) (MayBe o [] (start shelf)) (λ c either. inl (found_old not c either)) (x.leaves.found not))
-      (new_or_not old.reads_as)
-
-start_with : (told : Type 0) → told → (shelf : Contents) (o : Opening) (h : List UserEntry) (old new : DiskState) → HasStarted told shelf o h old new → LeavesOnly old new (MayBe o h (start shelf))
-start_with told t shelf o [] old new x = start_left told t shelf o old new x
-start_with told t shelf o (e ∷ h) old new x = absurd (let none : e ∷ h ≡ [] = x.none_yet in cc)
-
--- so does each command, by its clause
-said : (told : Type 0) → told → (o : Opening) (h : List UserEntry) (task : Task) (old new : DiskState) → Says told o h task old new → LeavesOnly old new (MayBe o h task)
-said told t o h (start shelf) old new says = start_with told t shelf o h old new says
-said told t o h (change op) old new says = says
-
-module _ {D : Type 0} (told : Type 0) (state : D → DiskState) (t : told) (disk : (d : D) → IsDisk (state d)) (o : Opening) where
-  -- where the keeper is home the disk reads what stands for the users, or for these with the change in doubt
-  rests : (s : UserState D) (h : List UserEntry) → StandsFor told state o s h → IsFileAfter o h (state s.journal.0).reads_as
-  rests s h stands = ⊎_elim (λ old. inl old) (λ doubted. inr doubted.0) (stands.reads t)
-
-  -- the file was read in front of the end of the first command
-  in_first : (d : D) (h : List UserEntry) (c : Command D) (cs : List (Command D)) (a m : ℕ) (file : List ℕ) → IsCommand told state o d h c → a ≤ m → m < length (read_in state c.calls)
-      → slice_get ((state d).reads_as ∷ (read_in state c.calls ++ read_by state cs)) m ≡ Some file → StandsForFirst state o h (c ∷ cs) a file
-  in_first d h c cs a m file x le before at = record {
+  -- a file that was read before the first operation ended
+  in_first : (h : List UserEntry) (first : List ℕ) (p : Operation) (ps : List Operation) (by n : ℕ) (file : List ℕ) → AllByRecursion (MayBe o h p.entry.op) (first ∷ p.readings) → by ≤ n → n < length p.readings
+      → slice_get (first ∷ (p.readings ++ readings_in ps)) n ≡ Some file → Found h (p ∷ ps) by file
+  in_first h first p ps by n file all le before at = record {
     number = zero;
-    holds = λ n few ended. none_ended n ended;
-    stands = subst (λ (g : List UserEntry). MayBe o g c.task file) (sym (append-nil h)) ((said told t o h c.task (state d) (state (last_of d c.calls)) x.says).each file
-        (moment_left state disk d c.calls x.calls m file (sym (get_front ((state d).reads_as ∷ read_in state c.calls) (read_by state cs) m (omega (arith, before))) ∙ at)));
+    holds = none_ended;
+    stands = subst (λ (g : List UserEntry). MayBe o g p.entry.op file) (sym (append-nil h))
+        (all_at (MayBe o h p.entry.op) (first ∷ p.readings) n file all (sym (get_front (first ∷ p.readings) (readings_in ps) n (omega (arith, before))) ∙ at));
   }
     where
-      none_ended : (n : ℕ) → length (read_by state (take n (c ∷ cs))) ≤ a → n ≤ zero
-      none_ended zero ended = omega arith
-      none_ended (suc n) ended =
-          let both : length (read_in state c.calls ++ read_by state (take n cs)) ≤ a = ended in
-          absurd (omega (arith, le, before, both, length-append (read_in state c.calls) (read_by state (take n cs))))
+      none_ended : (k : ℕ) → k ≤ length (p ∷ ps) → length (readings_in (take k (p ∷ ps))) ≤ by → k ≤ zero
+      none_ended zero few ended = omega arith
+      none_ended (suc k) few ended =
+          let both : length (p.readings ++ readings_in (take k ps)) ≤ by = ended in
+          absurd (omega (arith, le, before, both, length-append p.readings (readings_in (take k ps))))
 
-  -- or after it
-  in_rest : (d : D) (h : List UserEntry) (c : Command D) (cs : List (Command D)) (a : ℕ) (file : List ℕ)
-      → StandsForFirst state o (h ++ c.entered) cs (a - length (read_in state c.calls)) file → StandsForFirst state o h (c ∷ cs) a file
-  in_rest d h c cs a file x = record {
+  -- or after that
+  in_rest : (h : List UserEntry) (p : Operation) (ps : List Operation) (by : ℕ) (file : List ℕ) → Found (h ++ p.entry ∷ []) ps (by - length p.readings) file → Found h (p ∷ ps) by file
+  in_rest h p ps by file x = record {
     number = suc x.number;
-    holds = λ n few ended. all_ended n few ended;
-    stands = subst (λ (g : List UserEntry). StandsAt o g (slice_get cs x.number) file) (append_assoc h c.entered (entered_in (take x.number cs))) x.stands;
+    holds = all_ended;
+    stands = subst (λ (g : List UserEntry). StandsAt o g (slice_get ps x.number) file) (append_assoc h (p.entry ∷ []) (entries_in (take x.number ps))) x.stands;
   }
     where
-      all_ended : (n : ℕ) → n ≤ length (c ∷ cs) → length (read_by state (take n (c ∷ cs))) ≤ a → n ≤ suc x.number
+      all_ended : (k : ℕ) → k ≤ length (p ∷ ps) → length (readings_in (take k (p ∷ ps))) ≤ by → k ≤ suc x.number
       all_ended zero few ended = omega arith
-      all_ended (suc n) few ended =
-          let both : length (read_in state c.calls ++ read_by state (take n cs)) ≤ a = ended in
-          let within : suc n ≤ suc (length cs) = few in
-          let rest : n ≤ x.number = x.holds n (omega (arith, within)) (omega (arith, both, length-append (read_in state c.calls) (read_by state (take n cs)))) in
+      all_ended (suc k) few ended =
+          let both : length (p.readings ++ readings_in (take k ps)) ≤ by = ended in
+          let within : suc k ≤ suc (length ps) = few in
+          let rest : k ≤ x.number = x.holds k (omega (arith, within)) (omega (arith, both, length-append p.readings (readings_in (take k ps)))) in
           omega (arith, rest)
 
   -- whichever it is
-  find : (d : D) (h : List UserEntry) (cs : List (Command D)) (s : UserState D) → AreCommands told state o d h cs s → (a m : ℕ) (file : List ℕ) → a ≤ m → slice_get ((state d).reads_as ∷ read_by state cs) m ≡ Some file → StandsForFirst state o h cs a file
-  find d h [] s are a zero file le at = record {
+  find : (h : List UserEntry) (first : List ℕ) (ps : List Operation) → AreOperations o h first ps → IsFileAfter o (h ++ entries_in ps) (last_read first (readings_in ps))
+      → (by n : ℕ) (file : List ℕ) → by ≤ n → slice_get (first ∷ readings_in ps) n ≡ Some file → Found h ps by file
+  find h first [] are ends by zero file le at = record {
     number = zero;
-    holds = λ n few ended. few;
-    stands = subst (λ (g : List UserEntry). IsFileAfter o g file) (sym (append-nil h)) (subst (λ (f : List ℕ). IsFileAfter o h f) (ap (λ (x : D). (state x).reads_as) are.0 ∙ (let e : Some (state d).reads_as ≡ Some file = at in cc)) (rests s h are.1));
+    holds = λ k few ended. few;
+    stands = subst (λ (f : List ℕ). IsFileAfter o (h ++ []) f) (let e : Some first ≡ Some file = at in cc) ends;
   }
-  find d h [] s are a (suc m) file le at = absurd (let e : None ≡ Some file = at in cc)
-  find d h (c ∷ cs) s are a m file le at = ⊎_elim
-      (λ before. in_first d h c cs a m file are.0 le before at)
-      (λ behind. in_rest d h c cs a file (find (last_of d c.calls) (h ++ c.entered) cs s are.1 (a - length (read_in state c.calls)) (m - length (read_in state c.calls)) file (omega (arith, le))
-      (sym (read_on state d c.calls are.0.calls (read_by state cs) m (m - length (read_in state c.calls)) (omega (arith, behind))) ∙ at)))
-      (cases_lt m (length (read_in state c.calls)))
+  find h first [] are ends by (suc n) file le at = absurd (let e : None ≡ Some file = at in cc)
+  find h first (p ∷ ps) are ends by n file le at = ⊎_elim
+      (λ before. in_first h first p ps by n file are.0 le before at)
+      (λ late.
+      let there : length p.readings + (n - length p.readings) ≡ n = omega (arith, late) in
+      in_rest h p ps by file (find (h ++ p.entry ∷ []) (last_read first p.readings) ps are.1
+      (subst (λ (w : List UserEntry × List ℕ). IsFileAfter o w.0 w.1) (λ i. (sym (append_assoc h (p.entry ∷ []) (entries_in ps)) i, last_on first p.readings (readings_in ps) i)) ends)
+      (by - length p.readings) (n - length p.readings) file (omega (arith, le))
+      (sym (behind first p.readings (readings_in ps) (n - length p.readings)) ∙ ap (slice_get (first ∷ (p.readings ++ readings_in ps))) there ∙ at)))
+      (cases_lt n (length p.readings))
 
-pub standbys_stand : {D : Type 0} (told : Type 0) (state : D → DiskState) → ((d : D) → told → IsDisk (state d)) → StandbysStand told state
-standbys_stand told state disk t o d h cs s are pair unseen keeps is = find told state t (λ x. disk x t) o d h cs s are pair.primary.answered keeps.moment pair.standby.file keeps.not_before
-    (ap (λ (l : List (List ℕ)). slice_get l keeps.moment) (sym is) ∙ get_more (moments pair.primary) unseen keeps.moment pair.standby.file keeps.read)
+module _ {D : Type 0} (told : Type 0) (state : D → DiskState) (disks : (d : D) → told → IsDisk (state d)) (t : told) (o : Opening) (h : List UserEntry) (s : UserState D) (st : StandsFor told state o s h) where
+  abbrev disk : DiskState
+  disk = state s.journal.0
 
--- what stands after the older ones
-behind_older : {A : Type 0} (xs ys : List A) (k : ℕ) → slice_get (xs ++ ys) (length xs + k) ≡ slice_get ys k
-behind_older [] ys k = ap (slice_get ys) (let none : 0 + k ≡ k = omega arith in none)
-behind_older (x ∷ xs) ys k = ap (slice_get (x ∷ (xs ++ ys))) (let one : suc (length xs) + k ≡ suc (length xs + k) = omega arith in one) ∙ behind_older xs ys k
+  abbrev has : HasRead o h disk
+  has = st.read t
 
-module _ {D : Type 0} (told : Type 0) (state : D → DiskState) (disk : (d : D) → told → IsDisk (state d)) (t : told) (o : Opening) (d : D) (h : List UserEntry) (cs : List (Command D)) (s : UserState D) (are : AreCommands told state o d h cs s) (pair : Pair) (m : IsMirroredSince state d cs pair.primary) where
-  -- the moment whose file the standby has is no older one
-  since : KeepsUp pair → StandsForFirst state o h cs m.by pair.standby.file
-  since keeps =
-      let not_before = keeps.not_before in
-      let answered = m.answered in
-      let n : ℕ = keeps.moment - length m.older in
-      let there : keeps.moment ≡ length m.older + n = omega (arith, not_before, answered) in
-      find told state t (λ x. disk x t) o d h cs s are m.by n pair.standby.file (omega (arith, not_before, answered))
-      (sym (behind_older m.older ((state d).reads_as ∷ read_by state cs) n) ∙ ap (slice_get (m.older ++ (state d).reads_as ∷ read_by state cs)) (sym there) ∙ ap (λ (l : List (List ℕ)). slice_get l keeps.moment) (sym m.are) ∙ get_more (moments pair.primary) m.unseen keeps.moment pair.standby.file keeps.read)
+  -- what was read before the start, and what was read last then
+  abbrev first : List ℕ
+  first = last_read [] o.readings
 
-stands_by : {A : Type 0} (P : A → Type 0) (x : A) (n : ℕ) → (0 < n → P x) → IfSome (if nat_eq n 0 then None else Some x) P
-stands_by P x zero holds = tt
-stands_by P x (suc n) holds = subst (λ (b : Bool). IfSome (if b then None else Some x) P) (sym (eqb-suc-zero n)) (holds (omega arith))
+  ends : IsFileAfter o (entries_in has.operations) (last_read (last_read first has.started) (readings_in has.operations))
+  ends = subst (λ (w : List UserEntry × List ℕ). IsFileAfter o w.0 w.1) (λ i. (sym has.entered i, sym (read_so_far o h disk (disks s.journal.0 t) has) i)) (⊎_elim (λ old. inl old) (λ more. inr more.0) (st.reads t))
 
-pub copies_stand : {D : Type 0} (told : Type 0) (state : D → DiskState) → ((d : D) → told → IsDisk (state d)) → CopiesStand told state
-copies_stand told state disk t o d h cs s are pair unseen keeps is =
-    stands_by (StandsForFirst state o h cs pair.primary.answered) pair.standby.file pair.standby.synced (λ some. standbys_stand told state disk t o d h cs s are pair unseen (keeps some) is)
+  module _ (by : ℕ) (file : List ℕ) (handed : length o.readings ≤ by) (read : IsReadFrom by disk.readings file) where
+    -- its place from the last of what was read before the start on
+    abbrev place : ℕ
+    place = read.place + 1 - length o.readings
 
-pub standbys_stand_since : {D : Type 0} (told : Type 0) (state : D → DiskState) → ((d : D) → told → IsDisk (state d)) → StandbysStandSince told state
-standbys_stand_since told state disk t o d h cs s are pair keeps m =
-    stands_by (StandsForFirst state o h cs m.by) pair.standby.file pair.standby.synced (λ some. since told state disk t o d h cs s are pair m (keeps some))
+    placed : slice_get (first ∷ (has.started ++ readings_in has.operations)) place ≡ Some file
+    placed =
+        let late = read.late in
+        let one : length o.readings + place ≡ suc read.place = omega (arith, late, handed) in
+        sym (behind [] o.readings (has.started ++ readings_in has.operations) place)
+        ∙ (ap (slice_get ([] ∷ (o.readings ++ (has.started ++ readings_in has.operations)))) one
+        ∙ (ap (λ (fs : List (List ℕ)). slice_get fs read.place) (sym has.readings) ∙ read.is))
 
-pub start_command : {D : Type 0} (told : Type 0) (state : D → DiskState) → StartsAreCommands told state
-start_command told state t d shelf calls s settled are home opening leaves begins = (
-  record {
-    calls = are;
-    says = record { none_yet = refl; opening = opening; settled = settled; leaves = leaves };
-  },
-  (home, begins.stands),
-)
+    pub stands : StandsForOperations has by file
+    stands =
+        let late = read.late in
+        let started = length has.started in
+        ⊎_elim
+        (λ before. inl (record {
+          earlier = omega (arith, late, before, handed);
+          stands = all_at (MayBeAtStart o) (first ∷ has.started) place file has.start (sym (get_front (first ∷ has.started) (readings_in has.operations) place (omega (arith, before))) ∙ placed);
+        }))
+        (λ after.
+        let n : ℕ = place - length has.started in
+        let same : length has.started + n ≡ place = omega (arith, after) in
+        let found = find o [] (last_read first has.started) has.operations has.are ends (by - readings_before has) n file (omega (arith, late, after, handed))
+        (sym (behind first has.started (readings_in has.operations) n) ∙ (ap (slice_get (first ∷ (has.started ++ readings_in has.operations))) same ∙ placed)) in
+        inr (record { number = found.number; holds = λ k few ended. found.holds k few (omega (arith, ended)); stands = found.stands }))
+        (cases_lt place (length has.started))
+
+pub readings_stand : {D : Type 0} (told : Type 0) (state : D → DiskState) → ((d : D) → told → IsDisk (state d)) → ReadingsStand told state
+readings_stand told state disks t o h s st by file handed read = stands told state disks t o h s st by file handed read
+
+pub copies_stand : {D : Type 0} (told : Type 0) (state : D → DiskState) → ((d : D) → told → IsDisk (state d)) → CopiesAreReadings state → CopiesStand told state
+copies_stand told state disks copies t o h s st pair by handed keeps along = IfSome_then _ (copies s.journal.0 by pair keeps along) (λ file read. readings_stand told state disks t o h s st by file handed read)

@@ -108,6 +108,8 @@ impl Disk for RowDisk {
       may_leave = λ _. Unit {0};
       moment = 0;
       left_since = λ _ _. Unit {0};
+      readings = [];
+      synced = 0;
       faults = d.faults;
       margin = 0;
       room = 0;

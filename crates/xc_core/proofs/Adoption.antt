@@ -56,14 +56,14 @@ module _ {D : Type 0} (told : Type 0) (state : D → DiskState) (shelf : Content
       known = λ k. record { way = way_read; own = inr (last_is told state shelf a seat x r disk n k); journal = journal_home told state shelf a seat x r disk n };
     }
 
-    pub adopted : (origin : Origin D) (d : Boxed D) → d.value.p ≡ p → origin.table.value ≡ x.table → origin.provisioner.value ≡ d.value.p → origin.last.value ≡ x.last
+    pub adopted : (origin : Origin D) (d : Boxed D) → d.value.p ≡ p → origin.table.value ≡ x.table → origin.provisioner.value ≡ d.value.p → origin.last.value ≡ x.last → origin.disk.value ≡ x.handed.value → (told → IsDisk a × IsDisk (state x.p.journal.0))
         → IsAdopting told a.reads_as shelf seat (opening_of state (record { table = x.table; reports = x.reports; home = In d; origin = origin })) × Begins told state (record { table = x.table; reports = x.reports; home = In d; origin = origin }) × HasSeat seat (record { table = x.table; reports = x.reports; home = In d; origin = origin })
-    adopted origin d behind table_kept provisioner_kept last_kept =
+    adopted origin d behind table_kept provisioner_kept last_kept handed_kept disks =
         let stage : IsReadyOrHalted told state (first told state shelf a seat x r disk n) (began true ++ []) p = inr (halted_read, began_due) in
         let s : State D = record { table = x.table; reports = x.reports; home = In d; origin = origin } in
-        let is : opening_of state s ≡ opening told state shelf a seat x r disk n true seat = opening_is told state shelf a seat x r disk n true seat origin d behind table_kept provisioner_kept last_kept stage in (
+        let is : opening_of state s ≡ opening told state shelf a seat x r disk n true seat = opening_is told state shelf a seat x r disk n true seat origin d behind table_kept provisioner_kept last_kept handed_kept disks stage in (
           subst (λ (o : Opening). IsAdopting told a.reads_as shelf seat o) (sym is) (record { opens = opens told state shelf a seat x r disk n true seat limits; is_on = on }),
-          begins told state shelf a seat x r disk n true seat origin d behind table_kept provisioner_kept last_kept stage,
+          begins told state shelf a seat x r disk n true seat origin d behind table_kept provisioner_kept last_kept handed_kept disks stage,
           ap (λ (q : Provisioner D). Some q.mover) behind,
         )
 

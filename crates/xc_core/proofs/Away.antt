@@ -2,7 +2,7 @@
 use Rattle.std.specs.Prelude.{min}
 use Rattle.std.proofs.Common.{◌≡◌, ◌≢◌, ℕ, ◌+◌, ◌≤◌, arith, ◌⊎◌, true, false, List, [], ◌∷◌, ◌++◌, length, Option, Some, None, refl, sym, ◌∙◌, ap, subst, inl, inr}
 use Rattle.dxc_causes.specs.Causes.{last}
-use Rattle.dxc_disk.specs.Disks.{CountsOn, DiskState}
+use Rattle.dxc_disk.specs.Disks.{CountsOn, DiskState, IsSynced}
 use Rattle.dbchg_reports.specs.Recent.{Recent, recent_of, with_one}
 use Rattle.dbchg_reports.proofs.Keeping.{recent_more}
 use Rattle.dxc_model.specs.declared.op.Op.{Op}
@@ -23,13 +23,15 @@ use Rattle.xc_core.specs.declared.provisioner.Provisioner.{Provisioner}
 use Rattle.xc_core.specs.declared.state.Home.TheVariants.{In}
 use Rattle.xc_core.specs.declared.state.State.{State}
 use Rattle.xc_core.specs.Reckonings.{Past, ReckonsTo, changed}
+use Rattle.xc_core.specs.Operations.{HasRead}
 use Rattle.xc_core.specs.Provisioners.{Boxed, Rolls, ground_of, with_halt}
 use Rattle.xc_core.specs.Restarts.{IsHalted}
 use Rattle.xc_core.specs.Finishes.{Finishes}
-use Rattle.xc_core.specs.States.{DoubtsUnsettled, Opening, IsHomeAfter, IsPaid, IsReadyOrHalted, IsUnsettled, SpendsOf, StandsFor, cost, fault_in, faults_in, most_room, room_in, rules_of, with_home}
+use Rattle.xc_core.specs.States.{DoubtsUnsettled, Opening, IsHomeAfter, IsPaid, IsReadyOrHalted, IsUncertain, IsUnsettled, SpendsOf, StandsFor, cost, fault_in, faults_in, most_room, outset_of, room_in, rules_of, with_home}
 use Rattle.xc_core.specs.Seeing.{HasTaken, IsOut, entry}
 use Rattle.xc_core.proofs.Entries.{AreReads, reading_not_cut, astray_more, brought, changes_one, changes_same, doubts_cut, holder_append, lasted_reading, others_read, paid_counted, reads_changes, reads_faults, reads_room, room_more, same_faults, spends_at, spends_within, turns_behind}
 use Rattle.xc_core.proofs.Halting.{halted_rolls}
+use Rattle.xc_core.proofs.Operating.{read_made}
 use Rattle.xc_core.proofs.Pasts.{past_marked}
 use Rattle.xc_core.proofs.Reckoning.{changes_counted, reckons_more, reckoned_table}
 use Rattle.xc_core.proofs.Standing.{limit_met, table_is}
@@ -52,6 +54,7 @@ module _ {D : Type 0} (told : Type 0) (state : D → DiskState) where
         ground = t.ground;
         faults = subst (λ (n : ℕ). min (o.faults + n) last ≤ (state p.journal.0).faults) (sym (reads_faults h later read_since)) t.faults;
         spends = spends_within o (room_in h + most_room) (room_in (h ++ later) + most_room) (state p.journal.0) (let more = reads_room h later in omega (arith, more)) t.spends;
+        read = λ k. subst (λ (cs : List Change). HasRead (outset_of o) cs t.now (state p.journal.0)) (sym (reads_changes h later read_since)) (t.read k);
       }
 
     -- a place that took the Provisioner for a change finds it so
@@ -73,6 +76,7 @@ module _ {D : Type 0} (told : Type 0) (state : D → DiskState) where
     ground = ground ∙ t.ground;
     faults = subst (λ (j : D × Book). min (o.faults + faults_in h) last ≤ (state j.0).faults) (sym journal) t.faults;
     spends = subst (λ (j : D × Book). SpendsOf o (room_in h + most_room) (state j.0)) (sym journal) t.spends;
+    read = λ k. subst (λ (j : D × Book). HasRead (outset_of o) (changes_of h) t.now (state j.0)) (sym journal) (t.read k);
   }
 
   pub taken_rolls : (o : Opening) (own : ℕ) (op : Op) (h : List Entry) (p q : Provisioner D) (r s : RollingAt) → HasTaken told state o own op h p r → ground_of q ≡ ground_of p → q.journal ≡ p.journal
@@ -110,8 +114,16 @@ module _ {D : Type 0} (told : Type 0) (state : D → DiskState) where
 
     -- it comes home with all that it has of the disk
     pub in_now : (b : Past) (e : Entry) (q : Provisioner D) → ground_of q ≡ ground_of p → q.journal ≡ p.journal → fault_in e.outcome ≡ 0 → cost e.outcome ≡ most_room → IsReadyOrHalted told state b (h ++ e ∷ []) q → DoubtsUnsettled (h ++ e ∷ []) q
-        → IsHomeAfter told state o b (h ++ e ∷ []) q
-    in_now b e q ground journal none costs stage doubt = record { ground = ground ∙ t.ground; stage = stage; doubt = doubt; faults = faults_here e q journal none; spends = spends_here e q journal costs }
+        → (told → HasRead (outset_of o) (changes_of (h ++ e ∷ [])) b (state p.journal.0)) → (told → (IsUncertain (h ++ e ∷ []) → ⊥) → IsSynced (state p.journal.0)) → IsHomeAfter told state o b (h ++ e ∷ []) q
+    in_now b e q ground journal none costs stage doubt read synced = record {
+      ground = ground ∙ t.ground;
+      stage = stage;
+      doubt = doubt;
+      faults = faults_here e q journal none;
+      spends = spends_here e q journal costs;
+      read = λ k. subst (λ (j : D × Book). HasRead (outset_of o) (changes_of (h ++ e ∷ [])) b (state j.0)) (sym journal) (read k);
+      synced = λ k clear. subst (λ (j : D × Book). IsSynced (state j.0)) (sym journal) (synced k clear);
+    }
 
     pub paid_now : (e : Entry) (q : Provisioner D) → q.journal ≡ p.journal → fault_in e.outcome ≡ 0 → cost e.outcome ≡ most_room → CountsOn (state q.journal.0) → IsPaid o (h ++ e ∷ [])
     paid_now e q journal none costs counts = paid_counted o (h ++ e ∷ []) (state q.journal.0) counts (faults_here e q journal none) (spends_here e q journal costs)
@@ -132,7 +144,11 @@ module _ {D : Type 0} (told : Type 0) (state : D → DiskState) where
           turns = turns_more None h e st.turns (waits_own e place (subst (BringsHome op e.op) (sym cut) same));
           paid = paid_now e q journal none costs counts;
           astray = astray_more told h e st.astray (λ k x. let y : Cut ≡ Failed JournalAstray = sym cut ∙ x in cc);
-          home = (home_now e place, subst (λ (x : Provisioner D). IsHomeAfter told state o t.now (h ++ e ∷ []) x) (sym is) (in_now t.now e q ground journal none costs (inr (halted, lasts_now (λ y. IsCut y ⊎ IsFailedRestart y) IsRestarted h e (inl cut))) (doubts_cut h e q cut doubt)));
+          home = (
+            home_now e place,
+            subst (λ (x : Provisioner D). IsHomeAfter told state o t.now (h ++ e ∷ []) x) (sym is) (in_now t.now e q ground journal none costs (inr (halted, lasts_now (λ y. IsCut y ⊎ IsFailedRestart y) IsRestarted h e (inl cut))) (doubts_cut h e q cut doubt)
+                (λ k. subst (λ (cs : List Change). HasRead (outset_of o) cs t.now (state p.journal.0)) (sym unchanged) (t.read k)) (λ k clear. absurd (clear (lasts_now IsDoubtful IsSettling h e (inl cut))))),
+          );
         }
 
   module _ (o : Opening) (s : State D) (h : List Entry) (st : StandsFor told state o s h) (own : ℕ) (op : Op) (p : Provisioner D) (r : RollingAt) (t : HasTaken told state o own op h p r) where
@@ -163,7 +179,9 @@ module _ {D : Type 0} (told : Type 0) (state : D → DiskState) where
                 home_now o s h st own op p t.out e refl,
                 in_now o s h st own op p t.out (changed b t.change ops) e d.value.p ground journal refl refl
                     (inl (end.home, λ stopped. t.unstopped (lasts_before IsCut IsRestarted h e stopped (λ x. let y : Done t.change ≡ Cut = x in cc))))
-                    (λ x asked. absurd (let k : None ≡ Some x = sym end.settled ∙ asked in cc)),
+                    (λ x asked. absurd (let k : None ≡ Some x = sym end.settled ∙ asked in cc))
+                    (λ k. subst (λ (cs : List Change). HasRead (outset_of o) cs (changed b t.change ops) (state p.journal.0)) (sym one) (read_made (outset_of o) (changes_of h) (t.change ∷ []) b (changed b t.change ops) (state p.journal.0) (ops, t.rolls.planned, refl) (t.out.read k)))
+                    (λ k clear. t.rolls.journalled.synced k),
               );
             }
 

@@ -2,7 +2,7 @@
 use Rattle.std.specs.Prelude.{min, slice_index}
 use Rattle.std.proofs.Common.{◌≡◌, ◌≢◌, ℕ, ◌+◌, ◌≤◌, arith, ◌⊎◌, true, false, List, [], ◌∷◌, ◌++◌, Option, Some, None, refl, sym, ◌∙◌, ap, subst, inl, inr}
 use Rattle.dxc_causes.specs.Causes.{Rose, last}
-use Rattle.dxc_disk.specs.Disks.{CountsOn, DiskState, Spends}
+use Rattle.dxc_disk.specs.Disks.{CountsOn, DiskState, IsDisk, IsSynced, LeavesOnly, Spends}
 use Rattle.dxc_disk.proofs.DiskSteps.{spends_none}
 use Rattle.dbchg_reports.specs.Recent.{recent_of}
 use Rattle.turnstile.specs.Turning.{Each}
@@ -30,14 +30,18 @@ use Rattle.xc_core.specs.declared.state.Errand.TheVariants as errand
 use Rattle.xc_core.specs.declared.state.Home.TheVariants.{In, Out}
 use Rattle.xc_core.specs.declared.state.State.{State}
 use Rattle.xc_core.specs.Begins.{MayDoubt, MayNote, Plan, Starts, plan_of}
+use Rattle.xc_core.specs.Journals.{IsOldOrOneMore}
+use Rattle.xc_core.specs.Operations.{HasRead, change}
 use Rattle.xc_core.specs.Provisioners.{Boxed, IsHome, StillDoubts, ground_of, with_halt}
 use Rattle.xc_core.specs.Reckonings.{HasWork, Past, ReckonsTo}
 use Rattle.xc_core.specs.Restarts.{IsHalted, Resumes}
 use Rattle.xc_core.specs.Seeing.{HasFailed, HasHeld, HasPlan, HasRestart, HasStopped, HasTaken, IsDueFor, IsOut, entry}
-use Rattle.xc_core.specs.States.{DoubtsUnsettled, LimitBehind, IsHomeAfter, IsReadyOrHalted, MayBeOutFor, Opening, SpendsOf, StandsFor, fault_in, faults_in, most_room, room_in, rules_of, with_home}
+use Rattle.xc_core.specs.States.{DoubtsUnsettled, LimitBehind, IsHomeAfter, IsReadyOrHalted, IsUncertain, MayBeOutFor, Opening, SpendsOf, StandsFor, fault_in, faults_in, most_room, outset_of, room_in, rules_of, with_home}
 use Rattle.xc_core.proofs.Away.{comes_halted, home_now, out_since, out_table, read_since, same_table, taken_since, waits_own}
 use Rattle.xc_core.proofs.Entries.{reading_not_cut, reading_not_restarted, reading_not_settling, astray_more, changes_same, cut_settles_not, doubts_left, doubts_more, failed_settles_not, faults_more, lasted_reading, lasts_reading, paid_counted, reads_faults, reads_room, room_more, spends_at, spends_one, spends_within, taken_settles_not, unsettled_more}
+use Rattle.xc_core.proofs.Journalling.{doubted_or_more, home_images}
 use Rattle.xc_core.proofs.Meeting.{meets_one}
+use Rattle.xc_core.proofs.Operating.{read_more}
 use Rattle.xc_core.proofs.Restarting.{due_more, due_now, of_stop, restart_since}
 use Rattle.xc_core.proofs.Standing.{IsIn, found_in, limit_met, marked_home, out_of, ready_home, stands_out, there}
 
@@ -92,12 +96,13 @@ module _ {D : Type 0} (told : Type 0) (state : D → DiskState) where
       }
 
   -- The turn that takes it out calls no disk.
-  module _ (o : Opening) (s : State D) (h : List Entry) (st : StandsFor told state o s h) (q p : Provisioner D) (was : IsIn told state o h q) (journal : p.journal ≡ q.journal) (ground : ground_of p ≡ ground_of q) (own : ℕ) (op : Op) where
+  module _ (o : Opening) (s : State D) (h : List Entry) (st : StandsFor told state o s h) (q p : Provisioner D) (was : IsIn told state o st.now h q) (journal : p.journal ≡ q.journal) (ground : ground_of p ≡ ground_of q) (own : ℕ) (op : Op) where
     abbrev e : Entry
     e = entry own op Taken
 
     abbrev out_here : IsOut told state o own op (h ++ e ∷ []) p
     out_here = out_of told state o s h st q p was ground (subst (λ (j : D × Book). (state q.journal.0).faults ≤ (state j.0).faults) (sym journal) (omega arith)) (subst (λ (j : D × Book). Spends most_room (state q.journal.0) (state j.0)) (sym journal) (spends_none most_room (state q.journal.0))) op own
+        (λ k. subst (λ (j : D × Book). HasRead (outset_of o) (changes_of h) st.now (state j.0)) (sym journal) (was.read k))
 
     unspent_here : SpendsOf o (room_in (h ++ e ∷ [])) (state p.journal.0)
     unspent_here = subst (λ (j : D × Book). SpendsOf o (room_in (h ++ e ∷ [])) (state j.0)) (sym journal) (spends_at o (room_in h) (room_in (h ++ e ∷ [])) (state q.journal.0) (let room = room_more h e in omega (arith, room)) was.spends)
@@ -150,7 +155,7 @@ module _ {D : Type 0} (told : Type 0) (state : D → DiskState) where
 
   -- what calls outside of any turn left of a Provisioner that was taken out
   module _ (o : Opening) (own : ℕ) (op : Op) (h : List Entry) (q p : Provisioner D) (t : IsOut told state o own op h q) (unspent : SpendsOf o (room_in h) (state q.journal.0)) (ground : ground_of p ≡ ground_of q) (later : (state q.journal.0).faults ≤ (state p.journal.0).faults)
-      (spent : Spends most_room (state q.journal.0) (state p.journal.0)) where
+      (spent : Spends most_room (state q.journal.0) (state p.journal.0)) (read : told → HasRead (outset_of o) (changes_of h) t.now (state p.journal.0)) where
     abbrev out_left : IsOut told state o own op h p
     out_left = record {
       now = t.now;
@@ -159,16 +164,26 @@ module _ {D : Type 0} (told : Type 0) (state : D → DiskState) where
       ground = ground ∙ t.ground;
       faults = let was = t.faults in omega (arith, was, later);
       spends = spends_one o (room_in h) most_room (state q.journal.0) (state p.journal.0) unspent spent;
+      read = read;
     }
 
     rose_left : Rose (state q.journal.0).faults (state p.journal.0).faults → min (o.faults + (faults_in h + 1)) last ≤ (state p.journal.0).faults
     rose_left rose = let was = t.faults in omega (arith, was, rose)
 
+  -- what the disk read in the call is of the operation
+  read_noted : (o : Opening) (own : ℕ) (h : List Entry) (q p : Provisioner D) (plan : Plan) (x : HasPlan told state o own h q plan)
+      → (told → IsDisk (state q.journal.0) × IsDisk (state p.journal.0) × LeavesOnly (state q.journal.0) (state p.journal.0) (IsOldOrOneMore x.out.now q.doubt plan.op)) → told → HasRead (outset_of o) (changes_of h) x.out.now (state p.journal.0)
+  read_noted o own h q p plan x left k =
+      let l = left k in
+      read_more (outset_of o) (changes_of h) x.out.now (state q.journal.0) (state p.journal.0) q.doubt (change plan.op) l.0 l.1
+      (λ c image. doubted_or_more x.out.now q.doubt plan.op c (home_images told (state q.journal.0) q.journal.1 x.out.now q.doubt (sym x.may.home.past.shape) x.may.home.journal k x.may.home.past.book c image))
+      l.2 (x.out.read k)
+
   -- the record is in the journal
   pub plan_noted : (o : Opening) (own : ℕ) (h : List Entry) (q p : Provisioner D) (plan : Plan) (x : HasPlan told state o own h q plan) → ground_of p ≡ ground_of q → (state q.journal.0).faults ≤ (state p.journal.0).faults → Spends most_room (state q.journal.0) (state p.journal.0)
-      → Starts told state x.out.now plan.op p plan.rolling → HasTaken told state o own plan.op h p plan.rolling
-  plan_noted o own h q p plan x ground later spent starts = record {
-    out = out_left o own plan.op h q p x.out x.unspent ground later spent;
+      → (told → IsDisk (state q.journal.0) × IsDisk (state p.journal.0) × LeavesOnly (state q.journal.0) (state p.journal.0) (IsOldOrOneMore x.out.now q.doubt plan.op)) → Starts told state x.out.now plan.op p plan.rolling → HasTaken told state o own plan.op h p plan.rolling
+  plan_noted o own h q p plan x ground later spent left starts = record {
+    out = out_left o own plan.op h q p x.out x.unspent ground later spent (read_noted o own h q p plan x left);
     change = starts.change;
     within = starts.within;
     rolls = starts.rolls;
@@ -177,13 +192,13 @@ module _ {D : Type 0} (told : Type 0) (state : D → DiskState) where
 
   -- or the disk failed
   pub plan_failed : (o : Opening) (own : ℕ) (h : List Entry) (q p : Provisioner D) (plan : Plan) (x : HasPlan told state o own h q plan) → ground_of p ≡ ground_of q → Spends most_room (state q.journal.0) (state p.journal.0) → (state q.journal.0).faults ≤ (state p.journal.0).faults → Rose (state q.journal.0).faults (state p.journal.0).faults
-      → IsHome told state x.out.now p → MayDoubt plan.op q p → HasFailed told state o own plan.op plan.op DiskFault h p
-  plan_failed o own h q p plan x ground spent later rose home may = record {
-    out = out_left o own plan.op h q p x.out x.unspent ground later spent;
+      → (told → IsDisk (state q.journal.0) × IsDisk (state p.journal.0) × LeavesOnly (state q.journal.0) (state p.journal.0) (IsOldOrOneMore x.out.now q.doubt plan.op)) → IsHome told state x.out.now p → MayDoubt plan.op q p → HasFailed told state o own plan.op plan.op DiskFault h p
+  plan_failed o own h q p plan x ground spent later rose left home may = record {
+    out = out_left o own plan.op h q p x.out x.unspent ground later spent (read_noted o own h q p plan x left);
     upon = inl (refl, x.unstopped);
     fault = inl refl;
     driven = inr (changes x.out.now.fold.table.shape plan.op x.may.is.granted.apt);
-    counted = λ _. rose_left o own plan.op h q p x.out x.unspent ground later spent rose;
+    counted = λ _. rose_left o own plan.op h q p x.out x.unspent ground later spent (read_noted o own h q p plan x left) rose;
     astray = λ t is. let no : DiskFault ≡ JournalAstray = is in cc;
     stage = inl (home, x.unstopped);
     doubt = λ y asked. (
@@ -199,35 +214,35 @@ module _ {D : Type 0} (told : Type 0) (state : D → DiskState) where
   }
 
   -- of a restart: the mend or the reading failed
-  pub held_failed : (o : Opening) (own : ℕ) (asked : Op) (cause : Cause) (h : List Entry) (q p : Provisioner D) (x : HasHeld told state o own asked h q) → ground_of p ≡ ground_of q → (state q.journal.0).faults ≤ (state p.journal.0).faults → Spends most_room (state q.journal.0) (state p.journal.0) → StillDoubts q p
+  pub held_failed : (o : Opening) (own : ℕ) (asked : Op) (cause : Cause) (h : List Entry) (q p : Provisioner D) (x : HasHeld told state o own asked h q) → ground_of p ≡ ground_of q → (state q.journal.0).faults ≤ (state p.journal.0).faults → Spends most_room (state q.journal.0) (state p.journal.0) → (told → HasRead (outset_of o) (changes_of h) x.out.now (state p.journal.0)) → StillDoubts q p
       → IsDriven asked → IsFault cause → (cause ≡ DiskFault → Rose (state q.journal.0).faults (state p.journal.0).faults) → (told → cause ≢ JournalAstray) → (IsHome told state x.out.now p × (IsStopped h → ⊥)) ⊎ IsHalted told state x.out.now p
       → HasFailed told state o own Restart asked cause h p
-  held_failed o own asked cause h q p x ground later spent kept driven fault rose astray stage = record {
-    out = out_left o own Restart h q p x.out x.unspent ground later spent;
+  held_failed o own asked cause h q p x ground later spent read kept driven fault rose astray stage = record {
+    out = out_left o own Restart h q p x.out x.unspent ground later spent read;
     upon = inr (refl, x.due);
     fault = fault;
     driven = driven;
-    counted = λ is. rose_left o own Restart h q p x.out x.unspent ground later spent (rose is);
+    counted = λ is. rose_left o own Restart h q p x.out x.unspent ground later spent read (rose is);
     astray = astray;
     stage = elim stage [ inl a ↦ inl a | inr halted ↦ inr (halted, x.due) ];
     doubt = λ y here. let w = doubts_left h q p kept x.doubt y here in (inr w.0, w.1);
   }
 
   -- the gate stopped
-  pub held_stopped : (o : Opening) (own : ℕ) (asked : Op) (h : List Entry) (q p : Provisioner D) (x : HasHeld told state o own asked h q) → ground_of p ≡ ground_of q → (state q.journal.0).faults ≤ (state p.journal.0).faults → Spends most_room (state q.journal.0) (state p.journal.0) → StillDoubts q p → IsHalted told state x.out.now p
+  pub held_stopped : (o : Opening) (own : ℕ) (asked : Op) (h : List Entry) (q p : Provisioner D) (x : HasHeld told state o own asked h q) → ground_of p ≡ ground_of q → (state q.journal.0).faults ≤ (state p.journal.0).faults → Spends most_room (state q.journal.0) (state p.journal.0) → (told → HasRead (outset_of o) (changes_of h) x.out.now (state p.journal.0)) → StillDoubts q p → IsHalted told state x.out.now p
       → HasStopped told state o own asked h p
-  held_stopped o own asked h q p x ground later spent kept halted = record {
-    out = out_left o own Restart h q p x.out x.unspent ground later spent;
+  held_stopped o own asked h q p x ground later spent read kept halted = record {
+    out = out_left o own Restart h q p x.out x.unspent ground later spent read;
     halted = halted;
     doubt = doubts_left h q p kept x.doubt;
     due = x.due;
   }
 
   -- or the rest of the last work is found
-  pub held_resumed : (o : Opening) (own : ℕ) (asked : Op) (h : List Entry) (q p : Provisioner D) (x : HasHeld told state o own asked h q) → ground_of p ≡ ground_of q → (state q.journal.0).faults ≤ (state p.journal.0).faults → Spends most_room (state q.journal.0) (state p.journal.0) → StillDoubts q p
+  pub held_resumed : (o : Opening) (own : ℕ) (asked : Op) (h : List Entry) (q p : Provisioner D) (x : HasHeld told state o own asked h q) → ground_of p ≡ ground_of q → (state q.journal.0).faults ≤ (state p.journal.0).faults → Spends most_room (state q.journal.0) (state p.journal.0) → (told → HasRead (outset_of o) (changes_of h) x.out.now (state p.journal.0)) → StillDoubts q p
       → (r : RollingAt) (lacking : Option Change) (g : Past) → Resumes told state x.out.now lacking g p r → HasRestart told state o own asked h p r
-  held_resumed o own asked h q p x ground later spent kept r lacking g resumes = record {
-    out = out_left o own Restart h q p x.out x.unspent ground later spent;
+  held_resumed o own asked h q p x ground later spent read kept r lacking g resumes = record {
+    out = out_left o own Restart h q p x.out x.unspent ground later spent read;
     lacking = lacking;
     behind = g;
     resumes = resumes;
@@ -293,6 +308,13 @@ module _ {D : Type 0} (told : Type 0) (state : D → DiskState) where
       λ halted. lasts_more IsCut IsRestarted h f (w.1 halted) (λ r. failed_settles_not own op cause (inr r)),
     )
 
+    read : told → HasRead (outset_of o) (changes_of (h ++ f ∷ [])) b (state p.journal.0)
+    read k = subst (λ (cs : List Change). HasRead (outset_of o) cs b (state p.journal.0)) (sym (changes_same h f refl)) (t.out.read k)
+
+    -- the disk failed, so that not all is settled
+    synced : told → (IsUncertain (h ++ f ∷ []) → ⊥) → IsSynced (state p.journal.0)
+    synced k clear = elim t.fault [ inl is ↦ absurd (clear (lasts_now IsDoubtful IsSettling h f (inr (ap Failed is)))) | inr is ↦ absurd (t.astray k is) ]
+
     pub stands_fault : CountsOn (state p.journal.0) → (d : Boxed D) → d.value.p ≡ p → StandsFor told state o (with_home (In d) s) (h ++ f ∷ [])
     stands_fault counts d same =
         let unchanged = changes_same h f refl in
@@ -305,7 +327,7 @@ module _ {D : Type 0} (told : Type 0) (state : D → DiskState) where
           turns = turns_more None h f st.turns (waits_own told state o s h st own taken p t.out f refl (t.fault, elim t.upon [ inl a ↦ inl a.0 | inr a ↦ inr a.0 ]));
           paid = paid_counted o (h ++ f ∷ []) (state p.journal.0) counts counted spent;
           astray = astray_more told h f st.astray (λ k x. t.astray k (let y : Failed cause ≡ Failed JournalAstray = x in cc));
-          home = (home_now told state o s h st own taken p t.out f refl, subst (λ (x : Provisioner D). IsHomeAfter told state o b (h ++ f ∷ []) x) (sym same) (record { ground = t.out.ground; stage = stage; doubt = doubt; faults = counted; spends = spent }));
+          home = (home_now told state o s h st own taken p t.out f refl, subst (λ (x : Provisioner D). IsHomeAfter told state o b (h ++ f ∷ []) x) (sym same) (record { ground = t.out.ground; stage = stage; doubt = doubt; faults = counted; spends = spent; read = read; synced = synced }));
         }
 
   -- Which of both a stop found.

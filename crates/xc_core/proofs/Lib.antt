@@ -1,4 +1,5 @@
 pub mod Reckoning
+pub mod Operating
 pub mod Crossing
 pub mod Granting
 pub mod Journalling
@@ -26,6 +27,7 @@ pub mod Rereading
 pub mod Settling
 pub mod Staged
 pub mod Began
+pub mod Handed
 pub mod Opened
 pub mod Unread
 pub mod Adoption

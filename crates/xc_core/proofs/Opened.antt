@@ -4,7 +4,8 @@ use Rattle.std.specs.Prelude.{IfSome, replicate}
 use Rattle.std.proofs.lemmas.List.{length-replicate, length-take}
 use Rattle.dxc_num.specs.Dimensions.{Dimensions, IsInLimits, ports}
 use Rattle.dxc_causes.specs.Causes.{HasCause}
-use Rattle.dxc_disk.specs.Disks.{DiskState, IsDisk, IsSettled, Looks}
+use Rattle.dxc_disk.specs.Disks.{DiskState, IsDisk, IsSettled, IsSynced, Looks, files}
+use Rattle.dxc_disk.proofs.DiskSteps.{no_more_synced}
 use Rattle.dxc_disk.proofs.LookSteps.{looks_settled}
 use Rattle.dxc_model.specs.declared.op.Change.{Change}
 use Rattle.dxc_model.specs.Tables.{Board}
@@ -54,6 +55,7 @@ use Rattle.xc_core.specs.declared.start.Housed.{Housed}
 use Rattle.xc_core.specs.declared.start.Start.{Start}
 use Rattle.xc_core.specs.Reckonings.{Past, ReckonsTo}
 use Rattle.xc_core.specs.Journals.{IsAtHome}
+use Rattle.xc_core.specs.Operations.{HasRead}
 use Rattle.xc_core.specs.Provisioners.{Boxed, HasRoom, IsHome, KeepsPast, ground_of}
 use Rattle.xc_core.specs.Restarts.{LastIs}
 use Rattle.xc_core.specs.Starts.{IsHoused, IsStart}
@@ -62,6 +64,7 @@ use Rattle.xc_core.proofs.Pasts.{none_held}
 use Rattle.xc_core.specs.States.{IsHomeAfter, IsReadyOrHalted, Opening, StandsFor, began, opening_at, opening_of, recorded, rules_of}
 use Rattle.xc_core.specs.Openings.{Begins, HasBadRecord, IsFoldOf, IsOpening, LeavesOpened, Opens, disk_home}
 use Rattle.xc_core.proofs.Began.{began_astray, began_changes, began_faults, began_holder, began_legal, began_paid, began_turns, began_unstopped}
+use Rattle.xc_core.proofs.Handed.{start_read}
 use Rattle.xc_core.proofs.Journalling.{looked_on, untried}
 use Rattle.xc_core.proofs.Granting.{few_ports}
 
@@ -195,6 +198,9 @@ module _ {D : Type 0} (told : Type 0) (state : D → DiskState) (shelf : Content
   was_settled : told → IsSettled b
   was_settled k = ⊎_elim (λ n. (r.new k n).founds.0.settled) (λ not. (r.old k not).finds.0.settled) (new_or_not a.reads_as)
 
+  was_synced : told → IsSynced b
+  was_synced k = ⊎_elim (λ n. (r.new k n).synced) (λ not. (r.old k not).synced) (new_or_not a.reads_as)
+
   now_kept : told → IsKept (state j.0) j.1
   now_kept k = r.kept k (was_kept k)
 
@@ -245,6 +251,11 @@ module _ {D : Type 0} (told : Type 0) (state : D → DiskState) (shelf : Content
     pub last_is : told → LastIs (state j.0) j.1 first ops
     last_is k = record { whole = now_whole; still = now_still; comes = listed_comes k }
 
+    -- what its disk has read since it was handed out
+    begun_read : (k : told) → IsDisk a × IsDisk (state j.0) → HasRead (record { past = first; readings = files a.readings }) [] first (state j.0)
+    begun_read k disks = start_read shelf first a b (state j.0) book disks.0 disks.1 (r.no_more k) j.1.head (listed j.1 (state j.0).reads_as) (sym r.shape ∙ table_shape) (ops, listed_comes k)
+        (λ not. (subst (λ (w : Head × List (List ℕ)). Stands shelf.shape w.0 w.1 a.reads_as) (λ i. (ap (λ (y : Book). y.head) (sym r.same) i, listed (sym r.same i) (sym ((r.looks k).same) i))) (r.old k not).finds.1, r.old k not)) (r.new k)
+
     fold_home : IsFoldOf told shelf.shape (recorded j.1 (state j.0).reads_as) first
     fold_home = record {
       head = j.1.head;
@@ -260,7 +271,7 @@ module _ {D : Type 0} (told : Type 0) (state : D → DiskState) (shelf : Content
       at_home = record { matrix = c; journal = j; mover = v; doubt = None; changes = 0; halted = due; spent = n; replayed = x.p.replayed }
 
       abbrev pub opening : Opening
-      opening = record { site = ground_of at_home; records = recorded j.1 (state j.0).reads_as; first = first; due = due; faults = (state j.0).faults; margin = (state j.0).margin; room = (state j.0).room }
+      opening = record { site = ground_of at_home; records = recorded j.1 (state j.0).reads_as; first = first; due = due; readings = files (state x.handed.value).readings; faults = (state j.0).faults; margin = (state j.0).margin; room = (state j.0).room }
 
       pub opens : IsInLimits shelf.shape → Opens told a.reads_as shelf v.fabric due n opening
       unfolding fold_home
@@ -292,12 +303,12 @@ module _ {D : Type 0} (told : Type 0) (state : D → DiskState) (shelf : Content
 
       -- the state that it is home in, which keeps it as its origin
       module _ (origin : Origin D) (d : Boxed D) (behind : d.value.p ≡ at_home) (table_kept : origin.table.value ≡ t) (provisioner_kept : origin.provisioner.value ≡ d.value.p) (last_kept : origin.last.value ≡ x.last)
-          (stage : IsReadyOrHalted told state first (began due ++ []) at_home) where
+          (handed_kept : origin.disk.value ≡ x.handed.value) (disks : told → IsDisk a × IsDisk (state j.0)) (stage : IsReadyOrHalted told state first (began due ++ []) at_home) where
         abbrev begun : State D
         begun = record { table = t; reports = x.reports; home = In d; origin = origin }
 
         pub opening_is : opening_of state begun ≡ opening
-        opening_is = λ i. opening_at state (table_kept i) ((provisioner_kept ∙ behind) i) (last_kept i)
+        opening_is = λ i. opening_at state (handed_kept i) (table_kept i) ((provisioner_kept ∙ behind) i) (last_kept i)
 
         stands_begun : StandsFor told state opening begun (began due ++ [])
         stands_begun = record {
@@ -317,6 +328,8 @@ module _ {D : Type 0} (told : Type 0) (state : D → DiskState) (shelf : Content
               doubt = λ op asked. absurd cc;
               faults = let none = began_faults due in omega (arith, none);
               spends = λ enough. record { room = omega arith; margin = omega arith };
+              read = λ k. subst (λ (w : List (List ℕ) × List Change). HasRead (record { past = first; readings = w.0 }) w.1 first (state j.0)) (λ i. (sym r.handed i, sym (began_changes due) i)) (begun_read k (disks k));
+              synced = λ k clear. no_more_synced b (state j.0) (r.no_more k) (was_synced k);
             }),
           );
         }
@@ -345,18 +358,18 @@ module _ {D : Type 0} (told : Type 0) (state : D → DiskState) (shelf : Content
     home_joined : IsHome told state (first (length v.mover.log)) (at_home (length v.mover.log) false v)
     home_joined = record { ready = refl; past = past_read (length v.mover.log) false v few_joined; registers = rest; switches = refl; journal = journal_home (length v.mover.log) }
 
-    pub opened : (fabric : FabricId) (n : ℕ) (origin : Origin D) (d : Boxed D) → v.fabric ≡ fabric → n ≡ length v.mover.log → d.value.p ≡ at_home n false v → origin.table.value ≡ t → origin.provisioner.value ≡ d.value.p → origin.last.value ≡ x.last
+    pub opened : (fabric : FabricId) (n : ℕ) (origin : Origin D) (d : Boxed D) → v.fabric ≡ fabric → n ≡ length v.mover.log → d.value.p ≡ at_home n false v → origin.table.value ≡ t → origin.provisioner.value ≡ d.value.p → origin.last.value ≡ x.last → origin.disk.value ≡ x.handed.value → (told → IsDisk a × IsDisk (state j.0))
         → IsOpening told a.reads_as shelf fabric (opening_of state (record { table = t; reports = x.reports; home = In d; origin = origin })) × Begins told state (record { table = t; reports = x.reports; home = In d; origin = origin })
-    opened fabric n origin d own spent behind table_kept provisioner_kept last_kept =
+    opened fabric n origin d own spent behind table_kept provisioner_kept last_kept handed_kept disks =
         let m = length v.mover.log in
         let as_made : d.value.p ≡ at_home m false v = behind ∙ ap (λ (k : ℕ). at_home k false v) spent in
         let limits : IsInLimits shelf.shape = subst IsInLimits (sym rest.shape ∙ matrix_shape) rest.sized.shape in
         let stage : IsReadyOrHalted told state (first m) (began false ++ []) (at_home m false v) = inl (home_joined, began_unstopped) in
         let s : State D = record { table = t; reports = x.reports; home = In d; origin = origin } in
-        let is : opening_of state s ≡ opening m false v = opening_is m false v origin d as_made table_kept provisioner_kept last_kept stage in
+        let is : opening_of state s ≡ opening m false v = opening_is m false v origin d as_made table_kept provisioner_kept last_kept handed_kept disks stage in
         let o : IsOpening told a.reads_as shelf v.fabric (opening m false v) = subst (λ (k : ℕ). Opens told a.reads_as shelf v.fabric false k (opening m false v)) joins (opens m false v limits) in (
           subst (λ (w : FabricId × Opening). IsOpening told a.reads_as shelf w.0 w.1) (λ i. (own i, sym is i)) o,
-          begins m false v origin d as_made table_kept provisioner_kept last_kept stage,
+          begins m false v origin d as_made table_kept provisioner_kept last_kept handed_kept disks stage,
         )
 
 -- the state that was made of what was read

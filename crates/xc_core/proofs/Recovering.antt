@@ -151,6 +151,7 @@ module _ {D : Type 0} (told : Type 0) (state : D → DiskState) (b : Past) (p : 
         whole = h.whole;
         still = h.still;
         settled = λ t. (found_journal t lacking g taken given).settled t;
+        synced = λ t. (found_journal t lacking g taken given).synced t;
       }
 
       -- a cold rolling leads to the legs from wherever the registers are

@@ -1,7 +1,7 @@
 -- The journal of a halted Provisioner before and after it is read anew.
 use Rattle.std.proofs.Common.{◌≡◌, ◌≢◌, ◌⊎◌, ◌≤◌, inl, inr, ⊎_elim, ℕ, ◌+◌, ◌<◌, true, false, List, [], ◌∷◌, ◌++◌, length, take, drop, get_or, Option, Some, None, Ok, Err, sym, refl, ap, ◌∙◌, subst}
 use Rattle.std.specs.Prelude.{Result}
-use Rattle.dxc_disk.specs.Disks.{DiskState, IsDisk, IsSettled, Leaves, LeavesOnly, Looks}
+use Rattle.dxc_disk.specs.Disks.{DiskState, IsDisk, IsSettled, IsSynced, Leaves, LeavesOnly, Looks}
 use Rattle.dxc_num.specs.Dimensions.{Dimensions}
 use Rattle.dxc_model.specs.declared.op.Change.{Change}
 use Rattle.dxc_model.specs.Tables.{Board}
@@ -161,7 +161,7 @@ module _ {D : Type 0} (told : Type 0) (state : D → DiskState) (b : Past) (p : 
       halted_failed = halted_with (λ t. let k = h.known t in record { way = way_read k.way; own = own_failed t k.way.lacking k.way.before k.way.past k.way.rolling k.own; journal = lists_failed k.way.lacking k.journal })
 
     -- it succeeded: the list is what the file stood for
-    module _ (whole : j.1.to_mend ≡ false) (still : j.1.turning ≡ false) (kept : told → IsKept (state j.0) j.1) (settled : told → IsSettled (state j.0)) (stands : told → Stands book.shape j.1.head (listed j.1 (state j.0).reads_as) s.reads_as)
+    module _ (whole : j.1.to_mend ≡ false) (still : j.1.turning ≡ false) (kept : told → IsKept (state j.0) j.1) (settled : told → IsSettled (state j.0)) (synced : told → IsSynced (state j.0)) (stands : told → Stands book.shape j.1.head (listed j.1 (state j.0).reads_as) s.reads_as)
         (found : told → MayStand book (listed book s.reads_as) (doubted book s.reads_as) (rows book s.reads_as) s.reads_as) where
       abbrev list : List (List ℕ)
       list = listed j.1 (state j.0).reads_as
@@ -171,7 +171,7 @@ module _ {D : Type 0} (told : Type 0) (state : D → DiskState) (b : Past) (p : 
       list_has P t is = held_by b.fold.table.shape P j.1.head list s.reads_as limits (subst (λ (d : Dimensions). Stands d j.1.head list s.reads_as) shape_is (stands t)) is
 
       journalled_as : (l : Option Change) → IsListOf b p.doubt l j.1.head list → IsJournalled told (state j.0) j.1 (IsListOf b p.doubt l)
-      journalled_as l is = record { keeps = record { kept = kept; lists = λ _. is }; whole = whole; still = still; settled = settled }
+      journalled_as l is = record { keeps = record { kept = kept; lists = λ _. is }; whole = whole; still = still; settled = settled; synced = synced }
 
       -- nothing was in doubt, or it isn't held
       as_was : (g : Past) (before : Colouring) (r : RollingAt) → g ≡ b → IsOnWay p before g r → IsOwnWay (state j.0) j.1 b None before g r → IsSoFar b j.1.head list → IsListed told state b (with_read p j replayed)
@@ -264,7 +264,7 @@ none_bad d e records u t a c ops i comes low reached bad =
 
 -- What a replay after a reading that succeeded comes to.
 module _ {D : Type 0} (told : Type 0) (state : D → DiskState) (b : Past) (p : Provisioner D) (h : IsHalted told state b p) (j : D × Book) (replayed : Replayed) (whole_book : IsWhole j.1) (shape : j.1.shape ≡ p.journal.1.shape) (room : HasRoom p.journal.1.shape replayed)
-    (whole : j.1.to_mend ≡ false) (still : j.1.turning ≡ false) (kept : told → IsKept (state j.0) j.1) (settled : told → IsSettled (state j.0)) (stands : told → Stands p.journal.1.shape j.1.head (listed j.1 (state j.0).reads_as) (state p.journal.0).reads_as)
+    (whole : j.1.to_mend ≡ false) (still : j.1.turning ≡ false) (kept : told → IsKept (state j.0) j.1) (settled : told → IsSettled (state j.0)) (synced : told → IsSynced (state j.0)) (stands : told → Stands p.journal.1.shape j.1.head (listed j.1 (state j.0).reads_as) (state p.journal.0).reads_as)
     (found : told → MayStand p.journal.1 (listed p.journal.1 (state p.journal.0).reads_as) (doubted p.journal.1 (state p.journal.0).reads_as) (rows p.journal.1 (state p.journal.0).reads_as) (state p.journal.0).reads_as) where
   abbrev q : Provisioner D
   q = with_read p j replayed
@@ -277,10 +277,10 @@ module _ {D : Type 0} (told : Type 0) (state : D → DiskState) (b : Past) (p : 
       → IfOk result (λ w. (records : List (List ℕ)) × (length records ≡ j.1.count) × (told → records ≡ listed j.1 (state j.0).reads_as) × ComesTo j.1.shape j.1.head records replayed.table replayed.matrix w.ops.items)
       → ReadIs told state b q result
   read_is (Ok w) as_read read = record {
-    halted = halted_anew told state b p h j replayed whole_book shape room whole still kept settled stands found;
+    halted = halted_anew told state b p h j replayed whole_book shape room whole still kept settled synced stands found;
     whole = whole;
     still = still;
-    listed_is = listed_anew told state b p h j replayed whole_book shape room whole still kept settled stands found;
+    listed_is = listed_anew told state b p h j replayed whole_book shape room whole still kept settled synced stands found;
     records = read.0;
     number = read.1;
     records_are = read.2;
@@ -291,7 +291,7 @@ module _ {D : Type 0} (told : Type 0) (state : D → DiskState) (b : Past) (p : 
 
   pub never_bad : told → (result : Result Work ReplayFault) (i : ℕ) → Replays j.1.shape j.1.head (listed j.1 (state j.0).reads_as) result replayed.table replayed.matrix → result ≢ Err (BadRecord i)
   never_bad t result i is e =
-      let l = listed_anew told state b p h j replayed whole_book shape room whole still kept settled stands found t in
+      let l = listed_anew told state b p h j replayed whole_book shape room whole still kept settled synced stands found t in
       let w = l.known.way in
       let records = listed j.1 (state j.0).reads_as in
       let bad : Replays j.1.shape j.1.head records (Err (BadRecord i)) replayed.table replayed.matrix = subst (λ (x : Result Work ReplayFault). Replays j.1.shape j.1.head records x replayed.table replayed.matrix) e is in
@@ -328,6 +328,7 @@ pub record IsReadAnew {D : Type 0} (told : Type 0) (state : D → DiskState) (ol
   pub same_book : new.1 ≡ mid.1
   pub kept : told → IsKept (state new.0) new.1
   pub settled : told → IsSettled (state new.0)
+  pub synced : told → IsSynced (state new.0)
   pub stands : told → Stands old.1.shape new.1.head (listed new.1 (state new.0).reads_as) (state old.0).reads_as
   pub found : told → MayStand old.1 (listed old.1 (state old.0).reads_as) (doubted old.1 (state old.0).reads_as) (rows old.1 (state old.0).reads_as) (state old.0).reads_as
 
@@ -345,15 +346,15 @@ module _ {D : Type 0} (told : Type 0) (state : D → DiskState) (b : Past) (p : 
   read_book = subst IsWhole (sym r.same_book) r.book
 
   pub anew_halted : IsHalted told state b (with_read p j replayed)
-  anew_halted = halted_anew told state b p h j replayed read_book read_shape room read_whole read_still r.kept r.settled r.stands r.found
+  anew_halted = halted_anew told state b p h j replayed read_book read_shape room read_whole read_still r.kept r.settled r.synced r.stands r.found
 
   pub anew_reads : (result : Result Work ReplayFault) → (records : List (List ℕ)) × (length records ≡ j.1.count) × Replays j.1.shape j.1.head records result replayed.table replayed.matrix
       → IfOk result (λ w. (records : List (List ℕ)) × (length records ≡ j.1.count) × (told → records ≡ listed j.1 (state j.0).reads_as) × ComesTo j.1.shape j.1.head records replayed.table replayed.matrix w.ops.items)
       → ReadIs told state b (with_read p j replayed) result
-  anew_reads = read_is told state b p h j replayed read_book read_shape room read_whole read_still r.kept r.settled r.stands r.found
+  anew_reads = read_is told state b p h j replayed read_book read_shape room read_whole read_still r.kept r.settled r.synced r.stands r.found
 
   pub anew_good : told → (result : Result Work ReplayFault) (i : ℕ) → Replays j.1.shape j.1.head (listed j.1 (state j.0).reads_as) result replayed.table replayed.matrix → result ≢ Err (BadRecord i)
-  anew_good = never_bad told state b p h j replayed read_book read_shape room read_whole read_still r.kept r.settled r.stands r.found
+  anew_good = never_bad told state b p h j replayed read_book read_shape room read_whole read_still r.kept r.settled r.synced r.stands r.found
 
 -- what a reading keeps, it keeps after a look
 pub read_on : (a b c : DiskState) (book : Book) → IsDisk b → Keeps a b book → Looks b c → Keeps a c book

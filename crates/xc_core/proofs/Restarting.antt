@@ -22,14 +22,16 @@ use Rattle.xc_core.specs.declared.provisioner.Provisioner.{Provisioner}
 use Rattle.xc_core.specs.declared.state.Home.TheVariants.{In}
 use Rattle.xc_core.specs.declared.state.State.{State}
 use Rattle.xc_core.specs.Reckonings.{Past, ReckonsTo}
+use Rattle.xc_core.specs.Operations.{HasRead}
 use Rattle.xc_core.specs.Provisioners.{Boxed, ground_of}
 use Rattle.xc_core.specs.Restarts.{IsHalted, Resumes, TakesUp}
 use Rattle.xc_core.specs.Endings.{Ends, reports_with}
-use Rattle.xc_core.specs.States.{DoubtsUnsettled, Opening, HomeIs, IsReadyOrHalted, IsUnsettled, StandsFor, rules_of, with_home}
+use Rattle.xc_core.specs.States.{DoubtsUnsettled, Opening, HomeIs, IsReadyOrHalted, IsUnsettled, StandsFor, outset_of, rules_of, with_home}
 use Rattle.xc_core.specs.Seeing.{HasRestart, IsDueFor, IsOfStop, entry}
 use Rattle.xc_core.proofs.Away.{comes_halted, home_now, in_now, out_moved, out_since, out_table, paid_now, read_since, waits_own}
 use Rattle.xc_core.proofs.Entries.{AreReads, reading_not_restarted, reading_not_settling, astray_more, changes_one, changes_same, cut_settles_not, lasts_reading, unsettled_more}
 use Rattle.xc_core.proofs.Halting.{resumes_halted}
+use Rattle.xc_core.proofs.Operating.{read_made}
 use Rattle.xc_core.proofs.Reckoning.{reckons_more}
 
 -- a change that a restart takes up is in doubt
@@ -118,6 +120,11 @@ module _ {D : Type 0} (told : Type 0) (state : D → DiskState) where
             fits_by (rules_of o) h (entry own Restart (Restarted (Some c))) (effect (table_after o.first.fold.table h) c, (refl, own_verdict (table_after o.first.fold.table h) op c now, refl)) (λ d x. absurd x.apt)
             (doubt_of (table_after o.first.fold.table h) h op c now (t.doubt op here).0)
 
+        read : (l : Option Change) → TakesUp b p.doubt l t.behind → HasRead (outset_of o) (changes_of h) b (state p.journal.0) → HasRead (outset_of o) (changes_of (h ++ entry own Restart (Restarted l) ∷ [])) t.behind (state p.journal.0)
+        read None taken was = subst (λ (w : List Change × Past). HasRead (outset_of o) w.0 w.1 (state p.journal.0)) (λ i. (sym (changes_same h (entry own Restart (Restarted None)) refl) i, sym taken i)) was
+        read (Some c) (op, here, granted, met, same) was = subst (λ (cs : List Change). HasRead (outset_of o) cs t.behind (state p.journal.0)) (sym (changes_one h (entry own Restart (Restarted (Some c))) c refl))
+            (read_made (outset_of o) (changes_of h) (c ∷ []) b t.behind (state p.journal.0) (met.ops, met.planned, same) was)
+
         reports : (l : Option Change) → reports_with l s.reports ≡ recent_of (changes_of (h ++ entry own Restart (Restarted l) ∷ []))
         reports None = st.reports ∙ ap recent_of (sym (changes_same h (entry own Restart (Restarted None)) refl))
         reports (Some c) = ap (with_one c) st.reports ∙ recent_more (changes_of h) c ∙ ap recent_of (sym (changes_one h (entry own Restart (Restarted (Some c))) c refl))
@@ -138,7 +145,8 @@ module _ {D : Type 0} (told : Type 0) (state : D → DiskState) where
                 home_now told state o s h st own Restart p t.out e refl,
                 in_now told state o s h st own Restart p t.out t.behind e d.value.p ground journal refl refl
                     (inl (end.home, lasts_no_more IsCut IsRestarted h e (λ x. let y : Restarted l ≡ Cut = x in cc) (l, refl)))
-                    (λ x here. absurd (let k : None ≡ Some x = sym end.doubt ∙ here in cc)),
+                    (λ x here. absurd (let k : None ≡ Some x = sym end.doubt ∙ here in cc))
+                    (λ k. read l taken (t.out.read k)) (λ k clear. t.resumes.journalled.synced k),
               );
             }
 

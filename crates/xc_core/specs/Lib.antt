@@ -1,5 +1,6 @@
 pub mod Reckonings
 pub mod Journals
+pub mod Operations
 pub mod Provisioners
 pub mod Restarts
 pub mod Drives

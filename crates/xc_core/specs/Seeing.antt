@@ -21,9 +21,10 @@ use Rattle.journal_core.specs.Records.{set_seal}
 use Rattle.xc_core.specs.declared.provisioner.Provisioner.{Provisioner}
 use Rattle.xc_core.specs.Begins.{MayNote, Plan}
 use Rattle.xc_core.specs.Reckonings.{HasWork, Past, ReckonsTo}
+use Rattle.xc_core.specs.Operations.{HasRead}
 use Rattle.xc_core.specs.Provisioners.{IsHome, Rolls, ground_of}
 use Rattle.xc_core.specs.Restarts.{IsHalted, Resumes}
-use Rattle.xc_core.specs.States.{DoubtsUnsettled, IsReadyOrHalted, IsUnsettled, Opening, began, IsPaid, SpendsOf, faults_in, most_room, room_in, rules_of}
+use Rattle.xc_core.specs.States.{DoubtsUnsettled, IsReadyOrHalted, IsUnsettled, Opening, began, IsPaid, SpendsOf, faults_in, most_room, outset_of, room_in, rules_of}
 
 abbrev pub entry_coded : Coded Entry
 entry_coded = entry_row.the_row.coded
@@ -86,6 +87,8 @@ module _ {D : Type 0} (told : Type 0) (state : D → DiskState) where
     pub ground : ground_of p ≡ o.site
     pub faults : min (o.faults + faults_in h) last ≤ (state p.journal.0).faults
     pub spends : SpendsOf o (room_in h + most_room) (state p.journal.0)
+    -- so it is with what its disk has read: the operation in hand is the last, and has made no change yet
+    pub read : told → HasRead (outset_of o) (changes_of h) now (state p.journal.0)
 
   -- for a change, whose work is planned, in the journal, and under way
   pub record HasTaken (o : Opening) (own : ℕ) (op : Op) (h : List Entry) (p : Provisioner D) (r : RollingAt) : Type 0 where

@@ -1,7 +1,7 @@
 -- What a start has read of its journal.
 use Rattle.std.specs.Prelude.{◌≡◌, ℕ, false, List, length, None, Result, Ok, Err}
 use Rattle.dbchg_reports.specs.Recent.{no_changes}
-use Rattle.dxc_disk.specs.Disks.{DiskState, Looks}
+use Rattle.dxc_disk.specs.Disks.{DiskState, Looks, ReadsNoMore, files}
 use Rattle.dxc_num.specs.Dimensions.{Dimensions}
 use Rattle.fabric_words.specs.Seats.{MoverAt}
 use Rattle.journal_core.specs.declared.book.Book.{Book}
@@ -42,6 +42,7 @@ pub record IsBlank (d : Dimensions) (x : Blank) : Type 0 where
 pub record IsStart {D : Type 0} (told : Type 0) (state : D → DiskState) (shelf : Contents) (a : DiskState) (seat : MoverAt) (x : Start D) : Type 0 where
   -- as it was opened
   pub journal : D × Book
+  pub handed : files (state x.handed.value).readings ≡ files a.readings
   pub fresh : x.reports ≡ no_changes
   pub held : x.p ≡ record { matrix = x.p.matrix; journal = x.p.journal; mover = seat; doubt = None; changes = 0; halted = false; spent = 0; replayed = x.p.replayed }
   pub old : told → (IsNew a.reads_as → ⊥) → OpensOld shelf.shape a (state journal.0) (Ok journal.1)
@@ -52,6 +53,7 @@ pub record IsStart {D : Type 0} (told : Type 0) (state : D → DiskState) (shelf
   pub still : journal.1.turning ≡ false
   pub same : x.p.journal.1 ≡ journal.1
   pub looks : told → Looks (state journal.0) (state x.p.journal.0)
+  pub no_more : told → ReadsNoMore (state journal.0) (state x.p.journal.0)
   pub kept : told → IsKept (state journal.0) journal.1 → IsKept (state x.p.journal.0) x.p.journal.1
   pub records : List (List ℕ)
   pub number : length records ≡ journal.1.count
@@ -64,4 +66,5 @@ pub record IsHoused {D : Type 0} (x : Start D) (h : Housed D) : Type 0 where
   pub table : h.beside.table ≡ x.table
   pub reports : h.beside.reports ≡ x.reports
   pub last : h.beside.last ≡ x.last
+  pub handed : h.beside.handed.value ≡ x.handed.value
   pub p : h.driver.value.p ≡ x.p

@@ -2,7 +2,7 @@
 use Rattle.std.specs.Prelude.{◌≡◌, ◌⊎◌, ℕ, Bool, true, false, ◌+◌, ◌-◌, ◌≢◌, ◌≤◌, ◌<◌, min, List, [], ◌∷◌, ◌++◌, length, replicate, Option, Some, None}
 use Rattle.std.specs.List.{AllByRecursion}
 use Rattle.dxc_causes.specs.Causes.{last}
-use Rattle.dxc_disk.specs.Disks.{DiskState}
+use Rattle.dxc_disk.specs.Disks.{DiskState, IsSynced, files}
 use Rattle.dxc_model.specs.declared.cause.Cause.{Cause}
 use Rattle.dxc_model.specs.declared.cause.Cause.TheVariants.{DiskFault, JournalAstray}
 use Rattle.dxc_model.specs.declared.op.Op.{Op}
@@ -25,16 +25,18 @@ use Rattle.xc_core.specs.declared.state.Home.{Home}
 use Rattle.xc_core.specs.declared.state.Home.TheVariants.{In, Out}
 use Rattle.xc_core.specs.declared.state.State.{State}
 use Rattle.xc_core.specs.Reckonings.{Past, Meets, ReckonsTo}
+use Rattle.xc_core.specs.Operations.{HasRead, Outset}
 use Rattle.xc_core.specs.Provisioners.{Ground, IsHome, ground_of}
 use Rattle.xc_core.specs.Restarts.{IsHalted}
 
 -- where a history begins: fabric and journal, the records that the journal listed then, what there was after it, whether a restart was due, and
--- of the journal's disk the count of faults, the margin and the room
+-- of the journal's disk what it had read when it was handed out, and the count of faults, the margin and the room
 pub record Opening : Type 0 where
   pub site : Ground
   pub records : List (List ℕ)
   pub first : Past
   pub due : Bool
+  pub readings : List (List ℕ)
   pub faults : ℕ
   pub margin : ℕ
   pub room : ℕ
@@ -43,9 +45,9 @@ pub record Opening : Type 0 where
 abbrev pub recorded : Book → List ℕ → List (List ℕ)
 recorded book file = listed book file ++ replicate (book.count - length (listed book file)) []
 
--- the opening that is kept as snapshots of table, Provisioner and last work
-abbrev pub opening_at : {D : Type 0} → (D → DiskState) → Board → Provisioner D → Work → Opening
-opening_at state t p w = record {
+-- the opening that is kept as snapshots of the disk that was handed out, of table, Provisioner and last work
+abbrev pub opening_at : {D : Type 0} → (D → DiskState) → D → Board → Provisioner D → Work → Opening
+opening_at state handed t p w = record {
   site = ground_of p;
   records = recorded p.journal.1 (state p.journal.0).reads_as;
   first = record {
@@ -53,17 +55,22 @@ opening_at state t p w = record {
     changes = 0;
   };
   due = p.halted;
+  readings = files (state handed).readings;
   faults = (state p.journal.0).faults;
   margin = (state p.journal.0).margin;
   room = (state p.journal.0).room;
 }
 
 abbrev pub opening_in : {D : Type 0} → (D → DiskState) → Origin D → Opening
-opening_in state o = opening_at state o.table.value o.provisioner.value o.last.value
+opening_in state o = opening_at state o.disk.value o.table.value o.provisioner.value o.last.value
 
 -- the opening that a state keeps
 abbrev pub opening_of : {D : Type 0} → (D → DiskState) → State D → Opening
 opening_of state s = opening_in state s.origin
+
+-- what the journal is called for begins there
+abbrev pub outset_of : Opening → Outset
+outset_of o = record { past = o.first; readings = o.readings }
 
 -- an opening at which a restart was due counts as an entry that a stop cut, in front of all others
 abbrev pub began : Bool → List Entry
@@ -87,6 +94,10 @@ IsUnsettled h op = Lasts (λ e. IsDoubtful e × (e.op ≡ op)) IsSettling h
 -- an operation in doubt wasn't settled; and where the Provisioner is halted, a stop came, and no restart since
 abbrev pub DoubtsUnsettled : {D : Type 0} → List Entry → Provisioner D → Type 0
 DoubtsUnsettled h p = (op : Op) → p.doubt ≡ Some op → IsUnsettled h op × (p.halted ≡ true → IsStopped h)
+
+-- a stop came or the disk failed, and nothing settled it since
+abbrev pub IsUncertain : List Entry → Type 0
+IsUncertain = Lasts IsDoubtful IsSettling
 
 -- how many operations failed by a fault of the disk
 abbrev pub fault_in : Outcome → ℕ
@@ -159,6 +170,10 @@ module _ {D : Type 0} (told : Type 0) (state : D → DiskState) where
     -- each such failure was a fault that the disk counted
     pub faults : min (o.faults + faults_in h) last ≤ (state p.journal.0).faults
     pub spends : SpendsOf o (room_in h) (state p.journal.0)
+    -- what its disk has read since it was handed out it read in operations, which made the changes of the history
+    pub read : told → HasRead (outset_of o) (changes_of h) b (state p.journal.0)
+    -- where all is settled, the last that this disk did is a sync that was made
+    pub synced : told → (IsUncertain h → ⊥) → IsSynced (state p.journal.0)
 
   -- the Provisioner is out where a place took it and hasn't brought it home; then nothing is said of it
   abbrev pub HomeIs : Opening → Past → List Entry → Home D → Type 0

@@ -4,7 +4,7 @@ ghost use Rattle.dxc_disk.specs.Disks.{IsSound, Spends};
 ghost use Rattle.fabric_core.specs.State.{IsSize};
 ghost use Rattle.paull_matrix.specs.Colourings.{Colouring};
 ghost use Rattle.xc_recovery.specs.Stages.{IsLastWork};
-ghost use Rattle.xc_core.specs.Openings.{CountsFor, Fails, IsStopFault, KeepsPassing, LeavesOpened};
+ghost use Rattle.xc_core.specs.Openings.{CountsFor, Fails, IsHanded, IsStopFault, KeepsPassing, LeavesOpened};
 ghost use Rattle.xc_core.specs.Adoptions.{HasAdopted, IfOpen, IfState, IfStrange, IsDiskOpen, IsStrangeTo, LeftBy, SwitchesAre};
 
 use crate::fault::OpenFault;
@@ -87,6 +87,7 @@ impl Core {
         requires own { mover.fabric ≡ fabric.now }
         requires shape { fabric.now.size.shape ≡ shelf.now.shape }
         ensures state { IfState result (HasAdopted D.Disk shelf.now mover disk) }
+        ensures handed { IfState result (IsHanded D.Disk disk) }
         ensures strange { IfStrange result (IsStrangeTo D.Disk shelf.now mover disk) }
         ensures fails { D.told → IfOpen result (Fails D.state (D.state disk) shelf.now.shape) }
         ensures unstopped { IfOpen result (λ e. IsStopFault e → ⊥) }

@@ -10,7 +10,7 @@ ghost use Rattle.roll_engine.specs.Cold.{joins_of};
 ghost use Rattle.dxc_outside.specs.Stops.{the_stop};
 ghost use Rattle.dxc_outside.specs.declared.gate.GatePlace.TheVariants.{Register};
 ghost use Rattle.xc_core.specs.Askings.{OpenAsked};
-ghost use Rattle.xc_core.specs.Openings.{CountsFor, Fails, IsDiskErr, IsStopErr, KeepsPassing, Left, LeavesOpened, Opened};
+ghost use Rattle.xc_core.specs.Openings.{CountsFor, Fails, IsDiskErr, IsHanded, IsStopErr, KeepsPassing, Left, LeavesOpened, Opened};
 
 use crate::fault::OpenFault;
 use crate::provisioner::Provisioner;
@@ -43,6 +43,7 @@ impl Core {
         requires new { mover ≡ record { fabric = fabric.now; mover = new_mover fabric.now.size } }
         requires shape { fabric.now.size.shape ≡ shelf.now.shape }
         ensures ok { IfOk result (Opened D.Disk shelf.now fabric.now disk) }
+        ensures handed { IfOk result (IsHanded D.Disk disk) }
         ensures fails { D.told → IfErr result (Fails D.state (D.state disk) shelf.now.shape) }
         // Of whatever disk is left, where the gate stopped or memory was wanting too.
         ensures any_moment { D.told → Left D.state result (LeavesOpened shelf.now (D.state disk)) }

@@ -2,7 +2,7 @@
 ghost use Rattle.std.specs.Prelude.{◌≡◌, ◌⊎◌, ◌++◌, ◌∷◌, ◌↔◌, List, [], ℕ, true, false, IsTrue, IsErr, Option, OnErr, OnOk, Some, Err};
 ghost use Rattle.dxc_causes.specs.Causes.{HasCause};
 ghost use Rattle.dxc_causes.specs.Stops.{RoseOnlyFor};
-ghost use Rattle.dxc_disk.specs.Disks.{Spends};
+ghost use Rattle.dxc_disk.specs.Disks.{LeavesOnly, Spends};
 ghost use Rattle.dxc_model.specs.declared.entry.Entry.{Entry};
 ghost use Rattle.dxc_model.specs.declared.entry.Outcome.TheVariants.{Restarted};
 ghost use Rattle.dxc_model.specs.declared.op.Op.{Op};
@@ -11,6 +11,7 @@ ghost use Rattle.dxc_model.specs.Steps.{IsDriven};
 ghost use Rattle.dxc_outside.specs.Stops.{the_stop};
 ghost use Rattle.roll_engine.specs.Rollings.{rest_of};
 ghost use Rattle.xc_core.specs.Reckonings.{Past};
+ghost use Rattle.xc_core.specs.Journals.{IsOldOrDoubted};
 ghost use Rattle.xc_core.specs.Provisioners.{HasNoDoubt, IsHome, StillDoubts, ground_of};
 ghost use Rattle.xc_core.specs.Restarts.{IsHalted};
 ghost use Rattle.xc_core.specs.Askings.{RereadAsked};
@@ -42,6 +43,9 @@ fn make_halted<D: Disk>(p: &mut Provisioner<D>) -> Result<(), DiskFault>
     ensures mover { p.new.mover ≡ p.old.mover }
     ensures doubt { StillDoubts p.old p.new }
     ensures settled { OnOk result (p.old.halted ≡ false → HasNoDoubt p.new) }
+    ensures same { p.old.halted ≡ true → p.new ≡ p.old }
+    ensures any_moment { D.told → (b : Past) → IsHome D.told D.state b p.old → LeavesOnly
+        (D.state p.old.journal.0) (D.state p.new.journal.0) (IsOldOrDoubted b p.old.doubt) }
     ensures cause { HasCause (D.state p.old.journal.0).faults (D.state p.new.journal.0).faults
         (IsErr result) }
     ensures room { Spends 3 (D.state p.old.journal.0) (D.state p.new.journal.0) }

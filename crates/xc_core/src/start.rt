@@ -21,11 +21,13 @@ use roll_engine::Rolling;
 use roll_plan::Work;
 use shelf_file::Shelf;
 use std::alloc::Global;
+use std::snapshot::Snapshot;
 use xc_recovery::{ReplayFault, replay};
 
-/// Table and Provisioner as the journal gives them, no reports, and the last record's work.
+/// Table and Provisioner as the journal gives them, no reports, the last record's work, and the journal's disk as it was handed out.
 #[derive(Drop)]
 pub(crate) struct Start<D: Disk> {
+    pub handed: Snapshot<D>,
     pub table: Table,
     pub reports: Reports,
     pub p: Provisioner<D>,
@@ -67,8 +69,14 @@ pub(crate) struct Seated {
 }
 
 // What a journal was read into, with the journal.
-fn start_of<D: Disk>(seated: Seated, journal: Journal<D>, last: Work) -> Start<D>
+fn start_of<D: Disk>(
+    handed: Snapshot<D>,
+    seated: Seated,
+    journal: Journal<D>,
+    last: Work,
+) -> Start<D>
     ensures { result ≡ record {
+      handed = handed;
       table = seated.blank.table;
       reports = seated.blank.reports;
       p = record {
@@ -102,6 +110,7 @@ fn start_of<D: Disk>(seated: Seated, journal: Journal<D>, last: Work) -> Start<D
         replayed,
     };
     Start {
+        handed,
         table,
         reports,
         p,
@@ -143,6 +152,7 @@ pub(crate) fn read_journal<D: Disk + Drop>(
     };
     let mut seated = Seated { blank, mover };
     let shape = shelf.shape();
+    let handed = Snapshot::of(&disk);
     let mut journal = match Journal::open(disk, shape, shelf.equipped()) {
         Ok(journal) => journal,
         Err(fault) => return Err(OpenFault::Journal(fault)),
@@ -155,12 +165,13 @@ pub(crate) fn read_journal<D: Disk + Drop>(
         Ok(last) => last,
         Err(fault) => return Err(failed(fault, journal)),
     };
-    Ok(start_of(seated, journal, last))
+    Ok(start_of(handed, seated, journal, last))
 }
 
 /// What is beside the Provisioner.
 #[derive(Drop)]
-pub(crate) struct Beside {
+pub(crate) struct Beside<D: Disk> {
+    pub handed: Snapshot<D>,
     pub table: Table,
     pub reports: Reports,
     pub last: Work,
@@ -169,7 +180,7 @@ pub(crate) struct Beside {
 /// What was read, with its Provisioner in the place that it has from here on.
 #[derive(Drop)]
 pub(crate) struct Housed<D: Disk> {
-    pub beside: Beside,
+    pub beside: Beside<D>,
     pub driver: Box<Driver<D>>,
 }
 
@@ -178,12 +189,14 @@ pub(crate) fn house<D: Disk + Drop>(alloc: Global, read: Start<D>) -> Result<Hou
     ensures { MatchResult result (IsHoused read) (λ d. d ≡ read.p.journal.0) }
 {
     let Start {
+        handed,
         table,
         reports,
         p,
         last,
     } = read;
     let beside = Beside {
+        handed,
         table,
         reports,
         last,
@@ -220,17 +233,19 @@ pub(crate) fn begun<D: Disk>(housed: Housed<D>) -> State<D>
       home = In housed.driver;
       origin = result.origin;
     } }
+    ensures disk { result.origin.disk.value ≡ housed.beside.handed.value }
     ensures table { result.origin.table.value ≡ housed.beside.table }
     ensures provisioner { result.origin.provisioner.value ≡ housed.driver.value.p }
     ensures last { result.origin.last.value ≡ housed.beside.last }
 {
     let Housed { beside, driver } = housed;
     let Beside {
+        handed,
         table,
         reports,
         last,
     } = beside;
-    let origin = Origin::of(&table, &driver.p, &last);
+    let origin = Origin::of(handed, &table, &driver.p, &last);
     State {
         table,
         reports,

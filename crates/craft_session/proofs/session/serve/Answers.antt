@@ -70,11 +70,11 @@ returns-in-Ok-Cut g c =
     let s = c.serve_piece.ensures in
     let going : (g.K.Link.state c.serve_piece.new.link).ended ≡ false = s.link.wrote.ended ∙ c.in-Bytes.ensures.read.ended in
     let timely : WasTimely (language_for c.args.desk.now.attending.user (arc_value c.args.desk.now.shelf)) (telling g.K.Link.told g.C.Timestamps.told g.C.Timestamps.stamped) (stamp_at (g.C.Timestamps.coming c.args.clock.now) (g.K.Link.state c.args.link.now) c.args.desk.now.seat c.args.desk.now.users.seat) (stamp_at (g.C.Timestamps.coming c.serve_piece.new.clock) (g.K.Link.state c.serve_piece.new.link) c.serve_piece.new.desk.seat c.serve_piece.new.desk.users.seat) WriteFault = λ b at saw users first.
-        let x = read_goes (telling g.K.Link.told g.C.Timestamps.told g.C.Timestamps.stamped) (desk_at (g.K.Link.state c.read.new.self) (g.C.Timestamps.coming c.loop.clock) c.is_cancelled.new.desk) (desk_at (g.K.Link.state c.serve_piece.new.link) (g.C.Timestamps.coming c.serve_piece.new.clock) c.serve_piece.new.desk) (to_read c.is_cancelled.new.desk.attending c.is_cancelled.new.desk.reader _) c.serve_piece.new.desk.reader [] c.serve_piece.result (arc_value c.args.desk.now.shelf) c.args.desk.now.seat c.args.desk.now.users.seat c.args.desk.now.attending.user (g.K.Link.state c.args.link.now) (g.K.Link.state c.loop.link) (g.C.Timestamps.coming c.args.clock.now)
-          (ap arc_value (c.is_cancelled.ensures.shelf ∙ c.loop.invariant.shelf)) moved.here.seat_is moved.here.users_are c.serve_piece.ensures.goes _ _ c.in-Bytes.ensures.read (Ok Cut) (c.in-Ok-Cut.is ∙ ap (λ (p : Progress). Ok p) c.in-Ok-Cut.field-0-is) b at (moved.here.stands b at saw users first).past.walk (moved.here.timely b at saw users first)
-          (went_to g.K.Link.told b _ (g.K.Link.state c.serve_piece.new.link) c.is_cancelled.new.desk.seat c.is_cancelled.new.desk.users.seat (moved.here.seat_is.0 ∙ at.0, moved.here.seat_is.1 ∙ at.1, moved.here.users_are.0 ∙ at.2, moved.here.users_are.1 ∙ at.3) c.serve_piece.ensures.link _ _ _ c.serve_piece.ensures.asked)
-          (stands_piece _ _ _ _ _ _ _ _ _ _ _ _ _ _ (moved.here.stands b at saw users first) c.in-Bytes.ensures.read (grind (arith, common_steps))) begins in
-        record { attending = _; session = x.goes; timely = x.timely } in
+    let x = read_goes (telling g.K.Link.told g.C.Timestamps.told g.C.Timestamps.stamped) (desk_at (g.K.Link.state c.read.new.self) (g.C.Timestamps.coming c.loop.clock) c.is_cancelled.new.desk) (desk_at (g.K.Link.state c.serve_piece.new.link) (g.C.Timestamps.coming c.serve_piece.new.clock) c.serve_piece.new.desk) (to_read c.is_cancelled.new.desk.attending c.is_cancelled.new.desk.reader _) c.serve_piece.new.desk.reader [] c.serve_piece.result (arc_value c.args.desk.now.shelf) c.args.desk.now.seat c.args.desk.now.users.seat c.args.desk.now.attending.user (g.K.Link.state c.args.link.now) (g.K.Link.state c.loop.link) (g.C.Timestamps.coming c.args.clock.now)
+    (ap arc_value (c.is_cancelled.ensures.shelf ∙ c.loop.invariant.shelf)) moved.here.seat_is moved.here.users_are c.serve_piece.ensures.goes _ _ c.in-Bytes.ensures.read (Ok Cut) (c.in-Ok-Cut.is ∙ ap (λ (p : Progress). Ok p) c.in-Ok-Cut.field-0-is) b at (moved.here.stands b at saw users first).past.walk (moved.here.timely b at saw users first)
+    (went_to g.K.Link.told b _ (g.K.Link.state c.serve_piece.new.link) c.is_cancelled.new.desk.seat c.is_cancelled.new.desk.users.seat (moved.here.seat_is.0 ∙ at.0, moved.here.seat_is.1 ∙ at.1, moved.here.users_are.0 ∙ at.2, moved.here.users_are.1 ∙ at.3) c.serve_piece.ensures.link _ _ _ c.serve_piece.ensures.asked)
+    (stands_piece _ _ _ _ _ _ _ _ _ _ _ _ _ _ (moved.here.stands b at saw users first) c.in-Bytes.ensures.read (grind (arith, common_steps))) begins in
+    record { attending = _; session = x.goes; timely = x.timely } in
     let at_end = timely b (refl, refl, refl, c.args.desk.now.same_place) h.1 p.1 (record { stamps_are = refl; users_stamps_are = refl; codes_are = p.1.codes_are }) in
     record {
       shelf = s.shelf ∙ (c.is_cancelled.ensures.shelf ∙ c.loop.invariant.shelf);
@@ -118,11 +118,11 @@ returns-in-Err g c =
     let s = c.serve_piece.ensures in
     let going : (g.K.Link.state c.serve_piece.new.link).ended ≡ false = s.link.wrote.ended ∙ c.in-Bytes.ensures.read.ended in
     let timely : WasTimely (language_for c.args.desk.now.attending.user (arc_value c.args.desk.now.shelf)) (telling g.K.Link.told g.C.Timestamps.told g.C.Timestamps.stamped) (stamp_at (g.C.Timestamps.coming c.args.clock.now) (g.K.Link.state c.args.link.now) c.args.desk.now.seat c.args.desk.now.users.seat) (stamp_at (g.C.Timestamps.coming c.serve_piece.new.clock) (g.K.Link.state c.serve_piece.new.link) c.serve_piece.new.desk.seat c.serve_piece.new.desk.users.seat) Halted = λ b at saw users first.
-        let x = read_goes (telling g.K.Link.told g.C.Timestamps.told g.C.Timestamps.stamped) (desk_at (g.K.Link.state c.read.new.self) (g.C.Timestamps.coming c.loop.clock) c.is_cancelled.new.desk) (desk_at (g.K.Link.state c.serve_piece.new.link) (g.C.Timestamps.coming c.serve_piece.new.clock) c.serve_piece.new.desk) (to_read c.is_cancelled.new.desk.attending c.is_cancelled.new.desk.reader _) c.serve_piece.new.desk.reader [] c.serve_piece.result (arc_value c.args.desk.now.shelf) c.args.desk.now.seat c.args.desk.now.users.seat c.args.desk.now.attending.user (g.K.Link.state c.args.link.now) (g.K.Link.state c.loop.link) (g.C.Timestamps.coming c.args.clock.now)
-          (ap arc_value (c.is_cancelled.ensures.shelf ∙ c.loop.invariant.shelf)) moved.here.seat_is moved.here.users_are c.serve_piece.ensures.goes _ _ c.in-Bytes.ensures.read (Err the_stop) c.in-Err.is b at (moved.here.stands b at saw users first).past.walk (moved.here.timely b at saw users first)
-          (went_to g.K.Link.told b _ (g.K.Link.state c.serve_piece.new.link) c.is_cancelled.new.desk.seat c.is_cancelled.new.desk.users.seat (moved.here.seat_is.0 ∙ at.0, moved.here.seat_is.1 ∙ at.1, moved.here.users_are.0 ∙ at.2, moved.here.users_are.1 ∙ at.3) c.serve_piece.ensures.link _ _ _ c.serve_piece.ensures.asked)
-          (stands_piece _ _ _ _ _ _ _ _ _ _ _ _ _ _ (moved.here.stands b at saw users first) c.in-Bytes.ensures.read (grind (arith, common_steps))) begins in
-        record { attending = _; session = x.goes; timely = x.timely } in
+    let x = read_goes (telling g.K.Link.told g.C.Timestamps.told g.C.Timestamps.stamped) (desk_at (g.K.Link.state c.read.new.self) (g.C.Timestamps.coming c.loop.clock) c.is_cancelled.new.desk) (desk_at (g.K.Link.state c.serve_piece.new.link) (g.C.Timestamps.coming c.serve_piece.new.clock) c.serve_piece.new.desk) (to_read c.is_cancelled.new.desk.attending c.is_cancelled.new.desk.reader _) c.serve_piece.new.desk.reader [] c.serve_piece.result (arc_value c.args.desk.now.shelf) c.args.desk.now.seat c.args.desk.now.users.seat c.args.desk.now.attending.user (g.K.Link.state c.args.link.now) (g.K.Link.state c.loop.link) (g.C.Timestamps.coming c.args.clock.now)
+    (ap arc_value (c.is_cancelled.ensures.shelf ∙ c.loop.invariant.shelf)) moved.here.seat_is moved.here.users_are c.serve_piece.ensures.goes _ _ c.in-Bytes.ensures.read (Err the_stop) c.in-Err.is b at (moved.here.stands b at saw users first).past.walk (moved.here.timely b at saw users first)
+    (went_to g.K.Link.told b _ (g.K.Link.state c.serve_piece.new.link) c.is_cancelled.new.desk.seat c.is_cancelled.new.desk.users.seat (moved.here.seat_is.0 ∙ at.0, moved.here.seat_is.1 ∙ at.1, moved.here.users_are.0 ∙ at.2, moved.here.users_are.1 ∙ at.3) c.serve_piece.ensures.link _ _ _ c.serve_piece.ensures.asked)
+    (stands_piece _ _ _ _ _ _ _ _ _ _ _ _ _ _ (moved.here.stands b at saw users first) c.in-Bytes.ensures.read (grind (arith, common_steps))) begins in
+    record { attending = _; session = x.goes; timely = x.timely } in
     let at_end = timely b (refl, refl, refl, c.args.desk.now.same_place) h.1 p.1 (record { stamps_are = refl; users_stamps_are = refl; codes_are = p.1.codes_are }) in
     record {
       shelf = s.shelf ∙ (c.is_cancelled.ensures.shelf ∙ c.loop.invariant.shelf);
@@ -165,14 +165,14 @@ returns-in-End g c =
     let b : Beginning = record { opening = seat.opening; users = c.args.desk.now.users.seat.opening; place = seat.place; before = h.0; users_before = p.0; first = done_before seat c.args.desk.now.users.seat p.1.marks } in
     let stands = moved.here.stands b (refl, refl, refl, c.args.desk.now.same_place) h.1 p.1 (record { stamps_are = refl; users_stamps_are = refl; codes_are = p.1.codes_are }) in
     let timely : WasTimely (language_for c.args.desk.now.attending.user (arc_value c.args.desk.now.shelf)) (telling g.K.Link.told g.C.Timestamps.told g.C.Timestamps.stamped) (stamp_at (g.C.Timestamps.coming c.args.clock.now) (g.K.Link.state c.args.link.now) c.args.desk.now.seat c.args.desk.now.users.seat) (stamp_at (g.C.Timestamps.coming c.loop.clock) (g.K.Link.state c.read.new.self) c.is_cancelled.new.desk.seat c.is_cancelled.new.desk.users.seat) End = λ b at saw users first.
-        let x = moved.here.stands b at saw users first in
-        let f = reached (g.K.Link.state c.read.new.self).written c.is_cancelled.new.desk.seat.seen c.is_cancelled.new.desk.users.seat.seen in
-        record {
-          attending = c.is_cancelled.new.desk.attending;
-          session = served_nothing _ _ _ _ _ _ _ _ _ _ _ _ _ x c.in-End.ensures.read refl;
-          timely = timely_read (language_for c.args.desk.now.attending.user (arc_value c.args.desk.now.shelf)) (telling g.K.Link.told g.C.Timestamps.told g.C.Timestamps.stamped) (starting (g.K.Link.state c.args.link.now) (g.C.Timestamps.coming c.args.clock.now) b) (g.K.Link.state c.args.link.now) (g.K.Link.state c.loop.link) c.is_cancelled.new.desk.seat.seen c.is_cancelled.new.desk.users.seat.seen x.past.walk (moved.here.timely b at saw users first) f x.past.walk begins (g.K.Link.state c.read.new.self) _ _ c.in-End.ensures.read
-              (timely_none (language_for c.args.desk.now.attending.user (arc_value c.args.desk.now.shelf)) (telling g.K.Link.told g.C.Timestamps.told g.C.Timestamps.stamped) (starting (g.K.Link.state c.args.link.now) (g.C.Timestamps.coming c.args.clock.now) b) (g.K.Link.state c.read.new.self) f x.past.walk refl) (goes_nowhere g.K.Link.told b f);
-        } in
+    let x = moved.here.stands b at saw users first in
+    let f = reached (g.K.Link.state c.read.new.self).written c.is_cancelled.new.desk.seat.seen c.is_cancelled.new.desk.users.seat.seen in
+    record {
+      attending = c.is_cancelled.new.desk.attending;
+      session = served_nothing _ _ _ _ _ _ _ _ _ _ _ _ _ x c.in-End.ensures.read refl;
+      timely = timely_read (language_for c.args.desk.now.attending.user (arc_value c.args.desk.now.shelf)) (telling g.K.Link.told g.C.Timestamps.told g.C.Timestamps.stamped) (starting (g.K.Link.state c.args.link.now) (g.C.Timestamps.coming c.args.clock.now) b) (g.K.Link.state c.args.link.now) (g.K.Link.state c.loop.link) c.is_cancelled.new.desk.seat.seen c.is_cancelled.new.desk.users.seat.seen x.past.walk (moved.here.timely b at saw users first) f x.past.walk begins (g.K.Link.state c.read.new.self) _ _ c.in-End.ensures.read
+          (timely_none (language_for c.args.desk.now.attending.user (arc_value c.args.desk.now.shelf)) (telling g.K.Link.told g.C.Timestamps.told g.C.Timestamps.stamped) (starting (g.K.Link.state c.args.link.now) (g.C.Timestamps.coming c.args.clock.now) b) (g.K.Link.state c.read.new.self) f x.past.walk refl) (goes_nowhere g.K.Link.told b f);
+    } in
     let at_end = timely b (refl, refl, refl, c.args.desk.now.same_place) h.1 p.1 (record { stamps_are = refl; users_stamps_are = refl; codes_are = p.1.codes_are }) in
     record {
       shelf = (c.is_cancelled.ensures.shelf ∙ c.loop.invariant.shelf);
@@ -215,14 +215,14 @@ returns-in-Failed g c =
     let b : Beginning = record { opening = seat.opening; users = c.args.desk.now.users.seat.opening; place = seat.place; before = h.0; users_before = p.0; first = done_before seat c.args.desk.now.users.seat p.1.marks } in
     let stands = moved.here.stands b (refl, refl, refl, c.args.desk.now.same_place) h.1 p.1 (record { stamps_are = refl; users_stamps_are = refl; codes_are = p.1.codes_are }) in
     let timely : WasTimely (language_for c.args.desk.now.attending.user (arc_value c.args.desk.now.shelf)) (telling g.K.Link.told g.C.Timestamps.told g.C.Timestamps.stamped) (stamp_at (g.C.Timestamps.coming c.args.clock.now) (g.K.Link.state c.args.link.now) c.args.desk.now.seat c.args.desk.now.users.seat) (stamp_at (g.C.Timestamps.coming c.loop.clock) (g.K.Link.state c.read.new.self) c.is_cancelled.new.desk.seat c.is_cancelled.new.desk.users.seat) ReadFault = λ b at saw users first.
-        let x = moved.here.stands b at saw users first in
-        let f = reached (g.K.Link.state c.read.new.self).written c.is_cancelled.new.desk.seat.seen c.is_cancelled.new.desk.users.seat.seen in
-        record {
-          attending = c.is_cancelled.new.desk.attending;
-          session = served_nothing _ _ _ _ _ _ _ _ _ _ _ _ _ x c.in-Failed.ensures.read refl;
-          timely = timely_read (language_for c.args.desk.now.attending.user (arc_value c.args.desk.now.shelf)) (telling g.K.Link.told g.C.Timestamps.told g.C.Timestamps.stamped) (starting (g.K.Link.state c.args.link.now) (g.C.Timestamps.coming c.args.clock.now) b) (g.K.Link.state c.args.link.now) (g.K.Link.state c.loop.link) c.is_cancelled.new.desk.seat.seen c.is_cancelled.new.desk.users.seat.seen x.past.walk (moved.here.timely b at saw users first) f x.past.walk begins (g.K.Link.state c.read.new.self) _ _ c.in-Failed.ensures.read
-              (timely_none (language_for c.args.desk.now.attending.user (arc_value c.args.desk.now.shelf)) (telling g.K.Link.told g.C.Timestamps.told g.C.Timestamps.stamped) (starting (g.K.Link.state c.args.link.now) (g.C.Timestamps.coming c.args.clock.now) b) (g.K.Link.state c.read.new.self) f x.past.walk refl) (goes_nowhere g.K.Link.told b f);
-        } in
+    let x = moved.here.stands b at saw users first in
+    let f = reached (g.K.Link.state c.read.new.self).written c.is_cancelled.new.desk.seat.seen c.is_cancelled.new.desk.users.seat.seen in
+    record {
+      attending = c.is_cancelled.new.desk.attending;
+      session = served_nothing _ _ _ _ _ _ _ _ _ _ _ _ _ x c.in-Failed.ensures.read refl;
+      timely = timely_read (language_for c.args.desk.now.attending.user (arc_value c.args.desk.now.shelf)) (telling g.K.Link.told g.C.Timestamps.told g.C.Timestamps.stamped) (starting (g.K.Link.state c.args.link.now) (g.C.Timestamps.coming c.args.clock.now) b) (g.K.Link.state c.args.link.now) (g.K.Link.state c.loop.link) c.is_cancelled.new.desk.seat.seen c.is_cancelled.new.desk.users.seat.seen x.past.walk (moved.here.timely b at saw users first) f x.past.walk begins (g.K.Link.state c.read.new.self) _ _ c.in-Failed.ensures.read
+          (timely_none (language_for c.args.desk.now.attending.user (arc_value c.args.desk.now.shelf)) (telling g.K.Link.told g.C.Timestamps.told g.C.Timestamps.stamped) (starting (g.K.Link.state c.args.link.now) (g.C.Timestamps.coming c.args.clock.now) b) (g.K.Link.state c.read.new.self) f x.past.walk refl) (goes_nowhere g.K.Link.told b f);
+    } in
     let at_end = timely b (refl, refl, refl, c.args.desk.now.same_place) h.1 p.1 (record { stamps_are = refl; users_stamps_are = refl; codes_are = p.1.codes_are }) in
     record {
       shelf = (c.is_cancelled.ensures.shelf ∙ c.loop.invariant.shelf);
@@ -273,15 +273,15 @@ loop-preserved g c =
         seat = (w.serve_piece.ensures.seat.0 ∙ moved.here.seat_is.0, w.serve_piece.ensures.seat.1 ∙ moved.here.seat_is.1, w.serve_piece.ensures.seat.2 ∙ moved.here.seat_is.2, w.serve_piece.ensures.seat.3 ∙ moved.here.seat_is.3);
         users = (w.serve_piece.ensures.users.0 ∙ moved.here.users_are.0, w.serve_piece.ensures.users.1 ∙ moved.here.users_are.1, w.serve_piece.ensures.users.2 ∙ moved.here.users_are.2, w.serve_piece.ensures.users.3 ∙ moved.here.users_are.3);
         stands = λ b at saw users first. (read_goes (telling g.K.Link.told g.C.Timestamps.told g.C.Timestamps.stamped) (desk_at (g.K.Link.state c.read.new.self) (g.C.Timestamps.coming c.loop.clock) c.is_cancelled.new.desk) (desk_at (g.K.Link.state w.serve_piece.new.link) (g.C.Timestamps.coming w.serve_piece.new.clock) w.serve_piece.new.desk) (to_read c.is_cancelled.new.desk.attending c.is_cancelled.new.desk.reader _) w.serve_piece.new.desk.reader [] w.serve_piece.result (arc_value c.args.desk.now.shelf) c.args.desk.now.seat c.args.desk.now.users.seat c.args.desk.now.attending.user (g.K.Link.state c.args.link.now) (g.K.Link.state c.loop.link) (g.C.Timestamps.coming c.args.clock.now)
-          (ap arc_value (c.is_cancelled.ensures.shelf ∙ c.loop.invariant.shelf)) moved.here.seat_is moved.here.users_are w.serve_piece.ensures.goes _ _ w.in-Bytes.ensures.read (Ok On) (w.in-Ok-On.is ∙ ap (λ (p : Progress). Ok p) w.in-Ok-On.field-0-is) b at (moved.here.stands b at saw users first).past.walk (moved.here.timely b at saw users first)
-          (went_to g.K.Link.told b _ (g.K.Link.state w.serve_piece.new.link) c.is_cancelled.new.desk.seat c.is_cancelled.new.desk.users.seat (moved.here.seat_is.0 ∙ at.0, moved.here.seat_is.1 ∙ at.1, moved.here.users_are.0 ∙ at.2, moved.here.users_are.1 ∙ at.3) w.serve_piece.ensures.link _ _ _ w.serve_piece.ensures.asked)
-          (stands_piece _ _ _ _ _ _ _ _ _ _ _ _ _ _ (moved.here.stands b at saw users first) w.in-Bytes.ensures.read (grind (arith, common_steps))) begins).goes;
+            (ap arc_value (c.is_cancelled.ensures.shelf ∙ c.loop.invariant.shelf)) moved.here.seat_is moved.here.users_are w.serve_piece.ensures.goes _ _ w.in-Bytes.ensures.read (Ok On) (w.in-Ok-On.is ∙ ap (λ (p : Progress). Ok p) w.in-Ok-On.field-0-is) b at (moved.here.stands b at saw users first).past.walk (moved.here.timely b at saw users first)
+            (went_to g.K.Link.told b _ (g.K.Link.state w.serve_piece.new.link) c.is_cancelled.new.desk.seat c.is_cancelled.new.desk.users.seat (moved.here.seat_is.0 ∙ at.0, moved.here.seat_is.1 ∙ at.1, moved.here.users_are.0 ∙ at.2, moved.here.users_are.1 ∙ at.3) w.serve_piece.ensures.link _ _ _ w.serve_piece.ensures.asked)
+            (stands_piece _ _ _ _ _ _ _ _ _ _ _ _ _ _ (moved.here.stands b at saw users first) w.in-Bytes.ensures.read (grind (arith, common_steps))) begins).goes;
         prompt = prompt_more (language_for c.args.desk.now.attending.user (arc_value c.args.desk.now.shelf)) g.K.Link.begun g.K.Link.told g.C.Timestamps.told (g.K.Link.state c.args.link.now) (g.C.Timestamps.coming c.args.clock.now) c.args.desk.now.seat c.args.desk.now.users.seat (g.K.Link.state c.loop.link) (g.K.Link.state w.serve_piece.new.link) _ (g.C.Timestamps.coming c.loop.clock) (now c.is_cancelled.new.desk) c.is_cancelled.new.desk.reader c.loop.invariant.prompt w.in-Bytes.ensures.begun moved.here.stands w.in-Bytes.ensures.read.reads w.serve_piece.ensures.link.wrote.reads;
         heeds = λ limits. heeds_more (language_for c.args.desk.now.attending.user (arc_value c.args.desk.now.shelf)) g.K.Link.begun g.K.Link.told g.C.Timestamps.told (g.K.Link.state c.args.link.now) (g.C.Timestamps.coming c.args.clock.now) c.args.desk.now.seat c.args.desk.now.users.seat (g.K.Link.state c.loop.link) (g.K.Link.state w.serve_piece.new.link) _ (g.C.Timestamps.coming c.loop.clock) (now c.is_cancelled.new.desk) c.is_cancelled.new.desk.reader (c.loop.invariant.heeds limits) w.in-Bytes.ensures.begun (λ b at saw users first. (moved.here.stands b at saw users first, moved.unended c.if-is_cancelled.false limits b at saw users first)) w.in-Bytes.ensures.read.reads w.serve_piece.ensures.link.wrote.reads;
         timely = λ b at saw users first. (read_goes (telling g.K.Link.told g.C.Timestamps.told g.C.Timestamps.stamped) (desk_at (g.K.Link.state c.read.new.self) (g.C.Timestamps.coming c.loop.clock) c.is_cancelled.new.desk) (desk_at (g.K.Link.state w.serve_piece.new.link) (g.C.Timestamps.coming w.serve_piece.new.clock) w.serve_piece.new.desk) (to_read c.is_cancelled.new.desk.attending c.is_cancelled.new.desk.reader _) w.serve_piece.new.desk.reader [] w.serve_piece.result (arc_value c.args.desk.now.shelf) c.args.desk.now.seat c.args.desk.now.users.seat c.args.desk.now.attending.user (g.K.Link.state c.args.link.now) (g.K.Link.state c.loop.link) (g.C.Timestamps.coming c.args.clock.now)
-          (ap arc_value (c.is_cancelled.ensures.shelf ∙ c.loop.invariant.shelf)) moved.here.seat_is moved.here.users_are w.serve_piece.ensures.goes _ _ w.in-Bytes.ensures.read (Ok On) (w.in-Ok-On.is ∙ ap (λ (p : Progress). Ok p) w.in-Ok-On.field-0-is) b at (moved.here.stands b at saw users first).past.walk (moved.here.timely b at saw users first)
-          (went_to g.K.Link.told b _ (g.K.Link.state w.serve_piece.new.link) c.is_cancelled.new.desk.seat c.is_cancelled.new.desk.users.seat (moved.here.seat_is.0 ∙ at.0, moved.here.seat_is.1 ∙ at.1, moved.here.users_are.0 ∙ at.2, moved.here.users_are.1 ∙ at.3) w.serve_piece.ensures.link _ _ _ w.serve_piece.ensures.asked)
-          (stands_piece _ _ _ _ _ _ _ _ _ _ _ _ _ _ (moved.here.stands b at saw users first) w.in-Bytes.ensures.read (grind (arith, common_steps))) begins).timely;
+            (ap arc_value (c.is_cancelled.ensures.shelf ∙ c.loop.invariant.shelf)) moved.here.seat_is moved.here.users_are w.serve_piece.ensures.goes _ _ w.in-Bytes.ensures.read (Ok On) (w.in-Ok-On.is ∙ ap (λ (p : Progress). Ok p) w.in-Ok-On.field-0-is) b at (moved.here.stands b at saw users first).past.walk (moved.here.timely b at saw users first)
+            (went_to g.K.Link.told b _ (g.K.Link.state w.serve_piece.new.link) c.is_cancelled.new.desk.seat c.is_cancelled.new.desk.users.seat (moved.here.seat_is.0 ∙ at.0, moved.here.seat_is.1 ∙ at.1, moved.here.users_are.0 ∙ at.2, moved.here.users_are.1 ∙ at.3) w.serve_piece.ensures.link _ _ _ w.serve_piece.ensures.asked)
+            (stands_piece _ _ _ _ _ _ _ _ _ _ _ _ _ _ (moved.here.stands b at saw users first) w.in-Bytes.ensures.read (grind (arith, common_steps))) begins).timely;
         gate = stayed_ok On w.serve_piece.result _ _ (w.in-Ok-On.is ∙ ap (λ (p : Progress). Ok p) w.in-Ok-On.field-0-is) w.serve_piece.ensures.stopped ∙ c.loop.invariant.gate;
         counted = rw w.serve_piece.ensures.link.wrote.reads (counted_more _ _ _ _ c.loop.invariant.counted w.in-Bytes.ensures.read.reads);
         faults = w.serve_piece.ensures.link.wrote.read_faults ∙ w.in-Bytes.ensures.read.no_fault (bytes_came _) ∙ c.loop.invariant.faults;
@@ -299,15 +299,15 @@ loop-preserved g c =
         seat = (w.report.ensures.seat.0 ∙ moved.here.seat_is.0, w.report.ensures.seat.1 ∙ moved.here.seat_is.1, w.report.ensures.seat.2 ∙ moved.here.seat_is.2, w.report.ensures.seat.3 ∙ moved.here.seat_is.3);
         users = (ap (λ (u : UserDesk g.row.U.Denot). u.seat.opening) w.report.ensures.users ∙ moved.here.users_are.0, ap (λ (u : UserDesk g.row.U.Denot). u.seat.place) w.report.ensures.users ∙ moved.here.users_are.1, ap (λ (u : UserDesk g.row.U.Denot). u.seat.places) w.report.ensures.users ∙ moved.here.users_are.2, ap (λ (u : UserDesk g.row.U.Denot). u.seat.turnstile) w.report.ensures.users ∙ moved.here.users_are.3);
         stands = λ b at saw users first. (read_goes (telling g.K.Link.told g.C.Timestamps.told g.C.Timestamps.stamped) (desk_at (g.K.Link.state c.read.new.self) (g.C.Timestamps.coming c.loop.clock) c.is_cancelled.new.desk) (desk_at (g.K.Link.state w.report.new.link) (g.C.Timestamps.coming w.report.new.clock) w.report.new.desk) (to_report c.is_cancelled.new.desk.attending c.is_cancelled.new.desk.reader []) w.report.new.desk.reader [] (Ok w.report.result) (arc_value c.args.desk.now.shelf) c.args.desk.now.seat c.args.desk.now.users.seat c.args.desk.now.attending.user (g.K.Link.state c.args.link.now) (g.K.Link.state c.loop.link) (g.C.Timestamps.coming c.args.clock.now)
-          (ap arc_value (c.is_cancelled.ensures.shelf ∙ c.loop.invariant.shelf)) moved.here.seat_is moved.here.users_are (subst (λ (r : Reader). GoesTo (telling g.K.Link.told g.C.Timestamps.told g.C.Timestamps.stamped) (desk_at (g.K.Link.state c.read.new.self) (g.C.Timestamps.coming c.loop.clock) c.is_cancelled.new.desk) (desk_at (g.K.Link.state w.report.new.link) (g.C.Timestamps.coming w.report.new.clock) w.report.new.desk) (to_report c.is_cancelled.new.desk.attending c.is_cancelled.new.desk.reader []) r [] (Ok w.report.result)) (sym w.report.ensures.reader) (w.report.ensures.goes c.is_cancelled.new.desk.reader [])) _ _ w.in-Quiet.ensures.read (Ok On) (ap (λ (p : Progress). Ok p) w.in-On.is) b at (moved.here.stands b at saw users first).past.walk (moved.here.timely b at saw users first)
-          (looked_to g.K.Link.told b _ (g.K.Link.state w.report.new.link) c.is_cancelled.new.desk.seat c.is_cancelled.new.desk.users.seat (moved.here.seat_is.0 ∙ at.0, moved.here.seat_is.1 ∙ at.1, moved.here.users_are.0 ∙ at.2, moved.here.users_are.1 ∙ at.3) w.report.ensures.link _ _ (ap (λ (u : UserDesk g.row.U.Denot). u.seat.seen) w.report.ensures.users) w.report.ensures.entered)
-          (stands_quiet _ _ _ _ _ _ _ _ _ _ _ _ (moved.here.stands b at saw users first) w.in-Quiet.ensures.read) (waits _ (moved.here.stands b at saw users first).past.looked begins)).goes;
+            (ap arc_value (c.is_cancelled.ensures.shelf ∙ c.loop.invariant.shelf)) moved.here.seat_is moved.here.users_are (subst (λ (r : Reader). GoesTo (telling g.K.Link.told g.C.Timestamps.told g.C.Timestamps.stamped) (desk_at (g.K.Link.state c.read.new.self) (g.C.Timestamps.coming c.loop.clock) c.is_cancelled.new.desk) (desk_at (g.K.Link.state w.report.new.link) (g.C.Timestamps.coming w.report.new.clock) w.report.new.desk) (to_report c.is_cancelled.new.desk.attending c.is_cancelled.new.desk.reader []) r [] (Ok w.report.result)) (sym w.report.ensures.reader) (w.report.ensures.goes c.is_cancelled.new.desk.reader [])) _ _ w.in-Quiet.ensures.read (Ok On) (ap (λ (p : Progress). Ok p) w.in-On.is) b at (moved.here.stands b at saw users first).past.walk (moved.here.timely b at saw users first)
+            (looked_to g.K.Link.told b _ (g.K.Link.state w.report.new.link) c.is_cancelled.new.desk.seat c.is_cancelled.new.desk.users.seat (moved.here.seat_is.0 ∙ at.0, moved.here.seat_is.1 ∙ at.1, moved.here.users_are.0 ∙ at.2, moved.here.users_are.1 ∙ at.3) w.report.ensures.link _ _ (ap (λ (u : UserDesk g.row.U.Denot). u.seat.seen) w.report.ensures.users) w.report.ensures.entered)
+            (stands_quiet _ _ _ _ _ _ _ _ _ _ _ _ (moved.here.stands b at saw users first) w.in-Quiet.ensures.read) (waits _ (moved.here.stands b at saw users first).past.looked begins)).goes;
         prompt = prompt_more (language_for c.args.desk.now.attending.user (arc_value c.args.desk.now.shelf)) g.K.Link.begun g.K.Link.told g.C.Timestamps.told (g.K.Link.state c.args.link.now) (g.C.Timestamps.coming c.args.clock.now) c.args.desk.now.seat c.args.desk.now.users.seat (g.K.Link.state c.loop.link) (g.K.Link.state w.report.new.link) _ (g.C.Timestamps.coming c.loop.clock) (now c.is_cancelled.new.desk) c.is_cancelled.new.desk.reader c.loop.invariant.prompt w.in-Quiet.ensures.begun moved.here.stands w.in-Quiet.ensures.read.reads w.report.ensures.link.wrote.reads;
         heeds = λ limits. heeds_more (language_for c.args.desk.now.attending.user (arc_value c.args.desk.now.shelf)) g.K.Link.begun g.K.Link.told g.C.Timestamps.told (g.K.Link.state c.args.link.now) (g.C.Timestamps.coming c.args.clock.now) c.args.desk.now.seat c.args.desk.now.users.seat (g.K.Link.state c.loop.link) (g.K.Link.state w.report.new.link) _ (g.C.Timestamps.coming c.loop.clock) (now c.is_cancelled.new.desk) c.is_cancelled.new.desk.reader (c.loop.invariant.heeds limits) w.in-Quiet.ensures.begun (λ b at saw users first. (moved.here.stands b at saw users first, moved.unended c.if-is_cancelled.false limits b at saw users first)) w.in-Quiet.ensures.read.reads w.report.ensures.link.wrote.reads;
         timely = λ b at saw users first. (read_goes (telling g.K.Link.told g.C.Timestamps.told g.C.Timestamps.stamped) (desk_at (g.K.Link.state c.read.new.self) (g.C.Timestamps.coming c.loop.clock) c.is_cancelled.new.desk) (desk_at (g.K.Link.state w.report.new.link) (g.C.Timestamps.coming w.report.new.clock) w.report.new.desk) (to_report c.is_cancelled.new.desk.attending c.is_cancelled.new.desk.reader []) w.report.new.desk.reader [] (Ok w.report.result) (arc_value c.args.desk.now.shelf) c.args.desk.now.seat c.args.desk.now.users.seat c.args.desk.now.attending.user (g.K.Link.state c.args.link.now) (g.K.Link.state c.loop.link) (g.C.Timestamps.coming c.args.clock.now)
-          (ap arc_value (c.is_cancelled.ensures.shelf ∙ c.loop.invariant.shelf)) moved.here.seat_is moved.here.users_are (subst (λ (r : Reader). GoesTo (telling g.K.Link.told g.C.Timestamps.told g.C.Timestamps.stamped) (desk_at (g.K.Link.state c.read.new.self) (g.C.Timestamps.coming c.loop.clock) c.is_cancelled.new.desk) (desk_at (g.K.Link.state w.report.new.link) (g.C.Timestamps.coming w.report.new.clock) w.report.new.desk) (to_report c.is_cancelled.new.desk.attending c.is_cancelled.new.desk.reader []) r [] (Ok w.report.result)) (sym w.report.ensures.reader) (w.report.ensures.goes c.is_cancelled.new.desk.reader [])) _ _ w.in-Quiet.ensures.read (Ok On) (ap (λ (p : Progress). Ok p) w.in-On.is) b at (moved.here.stands b at saw users first).past.walk (moved.here.timely b at saw users first)
-          (looked_to g.K.Link.told b _ (g.K.Link.state w.report.new.link) c.is_cancelled.new.desk.seat c.is_cancelled.new.desk.users.seat (moved.here.seat_is.0 ∙ at.0, moved.here.seat_is.1 ∙ at.1, moved.here.users_are.0 ∙ at.2, moved.here.users_are.1 ∙ at.3) w.report.ensures.link _ _ (ap (λ (u : UserDesk g.row.U.Denot). u.seat.seen) w.report.ensures.users) w.report.ensures.entered)
-          (stands_quiet _ _ _ _ _ _ _ _ _ _ _ _ (moved.here.stands b at saw users first) w.in-Quiet.ensures.read) (waits _ (moved.here.stands b at saw users first).past.looked begins)).timely;
+            (ap arc_value (c.is_cancelled.ensures.shelf ∙ c.loop.invariant.shelf)) moved.here.seat_is moved.here.users_are (subst (λ (r : Reader). GoesTo (telling g.K.Link.told g.C.Timestamps.told g.C.Timestamps.stamped) (desk_at (g.K.Link.state c.read.new.self) (g.C.Timestamps.coming c.loop.clock) c.is_cancelled.new.desk) (desk_at (g.K.Link.state w.report.new.link) (g.C.Timestamps.coming w.report.new.clock) w.report.new.desk) (to_report c.is_cancelled.new.desk.attending c.is_cancelled.new.desk.reader []) r [] (Ok w.report.result)) (sym w.report.ensures.reader) (w.report.ensures.goes c.is_cancelled.new.desk.reader [])) _ _ w.in-Quiet.ensures.read (Ok On) (ap (λ (p : Progress). Ok p) w.in-On.is) b at (moved.here.stands b at saw users first).past.walk (moved.here.timely b at saw users first)
+            (looked_to g.K.Link.told b _ (g.K.Link.state w.report.new.link) c.is_cancelled.new.desk.seat c.is_cancelled.new.desk.users.seat (moved.here.seat_is.0 ∙ at.0, moved.here.seat_is.1 ∙ at.1, moved.here.users_are.0 ∙ at.2, moved.here.users_are.1 ∙ at.3) w.report.ensures.link _ _ (ap (λ (u : UserDesk g.row.U.Denot). u.seat.seen) w.report.ensures.users) w.report.ensures.entered)
+            (stands_quiet _ _ _ _ _ _ _ _ _ _ _ _ (moved.here.stands b at saw users first) w.in-Quiet.ensures.read) (waits _ (moved.here.stands b at saw users first).past.looked begins)).timely;
         gate = c.loop.invariant.gate;
         counted = rw w.report.ensures.link.wrote.reads (counted_more _ _ _ _ c.loop.invariant.counted w.in-Quiet.ensures.read.reads);
         faults = w.report.ensures.link.wrote.read_faults ∙ w.in-Quiet.ensures.read.no_fault quiet_came ∙ c.loop.invariant.faults;
@@ -334,11 +334,11 @@ returns-in-Cut g c =
     let cut : ◌≡◌ {A = Result Progress Stopped} (Ok c.report.result) (Ok Cut) = ap (λ (p : Progress). Ok p) c.in-Cut.is in
     let going : (g.K.Link.state c.report.new.link).ended ≡ false = c.report.ensures.link.wrote.ended ∙ c.in-Quiet.ensures.read.ended in
     let timely : WasTimely (language_for c.args.desk.now.attending.user (arc_value c.args.desk.now.shelf)) (telling g.K.Link.told g.C.Timestamps.told g.C.Timestamps.stamped) (stamp_at (g.C.Timestamps.coming c.args.clock.now) (g.K.Link.state c.args.link.now) c.args.desk.now.seat c.args.desk.now.users.seat) (stamp_at (g.C.Timestamps.coming c.report.new.clock) (g.K.Link.state c.report.new.link) c.report.new.desk.seat c.report.new.desk.users.seat) WriteFault = λ b at saw users first.
-        let x = read_goes (telling g.K.Link.told g.C.Timestamps.told g.C.Timestamps.stamped) (desk_at (g.K.Link.state c.read.new.self) (g.C.Timestamps.coming c.loop.clock) c.is_cancelled.new.desk) (desk_at (g.K.Link.state c.report.new.link) (g.C.Timestamps.coming c.report.new.clock) c.report.new.desk) (to_report c.is_cancelled.new.desk.attending c.is_cancelled.new.desk.reader []) c.is_cancelled.new.desk.reader [] (Ok c.report.result) (arc_value c.args.desk.now.shelf) c.args.desk.now.seat c.args.desk.now.users.seat c.args.desk.now.attending.user (g.K.Link.state c.args.link.now) (g.K.Link.state c.loop.link) (g.C.Timestamps.coming c.args.clock.now)
-          (ap arc_value (c.is_cancelled.ensures.shelf ∙ c.loop.invariant.shelf)) moved.here.seat_is moved.here.users_are (c.report.ensures.goes c.is_cancelled.new.desk.reader []) _ _ c.in-Quiet.ensures.read (Ok Cut) cut b at (moved.here.stands b at saw users first).past.walk (moved.here.timely b at saw users first)
-          (looked_to g.K.Link.told b _ (g.K.Link.state c.report.new.link) c.is_cancelled.new.desk.seat c.is_cancelled.new.desk.users.seat (moved.here.seat_is.0 ∙ at.0, moved.here.seat_is.1 ∙ at.1, moved.here.users_are.0 ∙ at.2, moved.here.users_are.1 ∙ at.3) c.report.ensures.link _ _ (ap (λ (u : UserDesk g.row.U.Denot). u.seat.seen) c.report.ensures.users) c.report.ensures.entered)
-          (stands_quiet _ _ _ _ _ _ _ _ _ _ _ _ (moved.here.stands b at saw users first) c.in-Quiet.ensures.read) (waits _ (moved.here.stands b at saw users first).past.looked begins) in
-        record { attending = _; session = x.goes; timely = x.timely } in
+    let x = read_goes (telling g.K.Link.told g.C.Timestamps.told g.C.Timestamps.stamped) (desk_at (g.K.Link.state c.read.new.self) (g.C.Timestamps.coming c.loop.clock) c.is_cancelled.new.desk) (desk_at (g.K.Link.state c.report.new.link) (g.C.Timestamps.coming c.report.new.clock) c.report.new.desk) (to_report c.is_cancelled.new.desk.attending c.is_cancelled.new.desk.reader []) c.is_cancelled.new.desk.reader [] (Ok c.report.result) (arc_value c.args.desk.now.shelf) c.args.desk.now.seat c.args.desk.now.users.seat c.args.desk.now.attending.user (g.K.Link.state c.args.link.now) (g.K.Link.state c.loop.link) (g.C.Timestamps.coming c.args.clock.now)
+    (ap arc_value (c.is_cancelled.ensures.shelf ∙ c.loop.invariant.shelf)) moved.here.seat_is moved.here.users_are (c.report.ensures.goes c.is_cancelled.new.desk.reader []) _ _ c.in-Quiet.ensures.read (Ok Cut) cut b at (moved.here.stands b at saw users first).past.walk (moved.here.timely b at saw users first)
+    (looked_to g.K.Link.told b _ (g.K.Link.state c.report.new.link) c.is_cancelled.new.desk.seat c.is_cancelled.new.desk.users.seat (moved.here.seat_is.0 ∙ at.0, moved.here.seat_is.1 ∙ at.1, moved.here.users_are.0 ∙ at.2, moved.here.users_are.1 ∙ at.3) c.report.ensures.link _ _ (ap (λ (u : UserDesk g.row.U.Denot). u.seat.seen) c.report.ensures.users) c.report.ensures.entered)
+    (stands_quiet _ _ _ _ _ _ _ _ _ _ _ _ (moved.here.stands b at saw users first) c.in-Quiet.ensures.read) (waits _ (moved.here.stands b at saw users first).past.looked begins) in
+    record { attending = _; session = x.goes; timely = x.timely } in
     let at_end = timely b (refl, refl, refl, c.args.desk.now.same_place) h.1 p.1 (record { stamps_are = refl; users_stamps_are = refl; codes_are = p.1.codes_are }) in
     record {
       shelf = c.report.ensures.shelf ∙ (c.is_cancelled.ensures.shelf ∙ c.loop.invariant.shelf);

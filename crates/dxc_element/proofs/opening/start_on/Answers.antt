@@ -23,7 +23,7 @@ returns-in-Ok-open-clause-started g c =
     let fabric = c.deref-3.ensures ∙ c.in-Ok-new-2.ensures.ok in
     started g.D.Disk.told g.D.Disk.state _ g.met.D.Disk.counts_on c.args.disk c.args.shelf c.deref-2.result.now c.args.workers laid _ c.open.result c.in-Ok.ensures.ok (c.deref-2.ensures ∙ c.in-Ok.ensures.ok) (sym c.deref-3.ensures)
     (ap (λ (i : FabricId). i.size) fabric ∙ (c.in-Ok-new.ensures.fabric ∙ ap (λ (d : Dimensions). record { shape = d; workers = c.args.workers }) (c.shape.ensures ∙ ap (λ (s : Contents). s.shape) (c.deref.ensures ∙ c.in-Ok.ensures.ok))))
-    c.in-Ok-open.is x.0 x.1 e.cause e.room (c.in-Ok-new.ensures.workers.0, subst (λ (i : FabricId). AreNew i 0 c.in-Ok-new.seats.items) (sym fabric) c.in-Ok-new.ensures.workers.1)
+    c.in-Ok-open.is x.0 c.in-Ok-open.ensures.handed x.1 e.cause e.room (c.in-Ok-new.ensures.workers.0, subst (λ (i : FabricId). AreNew i 0 c.in-Ok-new.seats.items) (sym fabric) c.in-Ok-new.ensures.workers.1)
 
 pub returns-in-Err-clause-started : goal.returns-in-Err-clause-started
 returns-in-Err-clause-started g c =

@@ -27,6 +27,7 @@ returns-in-Open-peer-clause-mirror g c = record {
     later = c.join.ensures.faults;
     peer = c.in-Open-peer.link;
     joins = c.join.ensures.line;
+    step = c.join.ensures.step;
   };
 }
 

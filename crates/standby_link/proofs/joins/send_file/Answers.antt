@@ -110,3 +110,9 @@ returns-then-is_some-clause-sends g c = λ t small.
     let piece = next_piece c.read.new.into c.loop-at.piece (g.D.Disk.state c.loop-at.disk).reads_as file c.min-count.result c.loop-at.at (omega (arith, length-take c.min-count.result c.loop-at.piece, c.min-count.ensures)) (on_ok _ c.read.result (sym c.if-is_err.ensures.value) (c.read.ensures.bytes t)) (c.loop-at.invariant.looks t).same in
     let sends = next_sends _ _ _ _ _ _ _ _ _ piece (c.send_write.ensures.sends (omega (arith, few, small.0))) in
     file_sent _ _ _ _ _ (sending_cut _ _ _ _ _ _ _ _ _ (c.loop-at.at + c.min-count.result) _ sending less end _ (search rules) sends)
+
+-- nothing was sent
+pub returns-in_default-clause-sends : goal.returns-in_default-clause-sends
+returns-in_default-clause-sends g c = λ t small.
+    subst (λ (k : LinkState). SendsFile g.K.Link.told (g.D.Disk.state c.args.disk.now) (g.D.Disk.state c.length.new.self) (g.K.Link.state c.args.line.now.link) (line k c.end.new.self.number (take c.end.new.self.ear.held c.end.new.self.ear.inbox) c.end.new.self.lost)) (sym c.end.ensures.link)
+    (file_unread _ _ _ _ _ 0 0 (sending_none _ _ 0 0 _) (c.end.ensures.lost c.requires.here) (c.length.ensures.cause.cause (search rules)))

@@ -1,5 +1,5 @@
 use Rattle.std.proofs.Common.{◌≡◌, ℕ, ◌+◌, [], ◌∷◌, ◌++◌, get_or, length-append, refl, sym, ◌∙◌, ap, subst, arith}
-use Rattle.dxc_disk.proofs.DiskSteps.{spends_none, spends_on}
+use Rattle.dxc_disk.proofs.DiskSteps.{no_more_on, no_more_same, spends_none, spends_on}
 use Rattle.dxc_disk.proofs.LookSteps.{looks_on, looks_same}
 use Rattle.journal_core.specs.Books.{listed}
 use Rattle.user_admin.specs.declared.op.UserChange.{UserChange}
@@ -17,6 +17,7 @@ loop-i-init g c =
       described = refl;
       book = refl;
       looks = λ told. looks_same s;
+      no_more = λ told. no_more_same s;
       later = omega arith;
       spent = spends_none 0 s;
       so_far = ([], refl, (λ told. refl), none_folded l.described l.users c.requires);
@@ -39,6 +40,7 @@ loop-i-preserved g c =
       described = c.take.ensures.described ∙ inv.described;
       book = c.record.ensures.same ∙ inv.book;
       looks = λ told. looks_on s mid u (g.met.D.Disk.is_disk a.0 told) (inv.looks told) (c.record.ensures.looks told);
+      no_more = λ told. no_more_on s mid u (inv.no_more told) (c.record.ensures.no_more told);
       later = omega (arith, inv.later, c.record.ensures.cause.later);
       spent = spends_on i 1 s mid u inv.spent c.record.ensures.room;
       so_far = (

@@ -43,6 +43,9 @@ returns-clause-failed g c =
     append_failed g.D.Disk.told (g.D.Disk.state a.0) (g.D.Disk.state m.0) (g.D.Disk.state n.0) a.1 m.1 n.1 c.args.described.now c.args.users.now ch c.record_of.result (has_long_salt ch, c.requires.meant, c.record_of.ensures) c.requires.fits c.in-Ok.ensures.ready c.make_ready.ensures.book c.make_ready.ensures.home
     c.append.result c.append.ensures.appends c.append.ensures.err
 
+pub returns-clause-synced : goal.returns-clause-synced
+returns-clause-synced g c = λ told. (c.append.ensures.appends told).synced
+
 pub returns-clause-shape : goal.returns-clause-shape
 returns-clause-shape g c = append_shape c.append.result c.make_ready.new.journal.1 c.append.new.self.1 c.append.ensures.ok c.append.ensures.err ∙ c.make_ready.ensures.shape
 

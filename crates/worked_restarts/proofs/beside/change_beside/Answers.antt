@@ -14,4 +14,4 @@ note_beside-requires-clause-planned g c =
     let o = opening_of g.D.Disk.state c.args.turns.now.first in
     let took = c.in-Rolling.ensures.took w.0 w.1 in
     let seen = (w.0 ++ took.0.later) ++ entry c.args.pass.now.number c.args.op.now Taken ∷ [] in
-    (seen, took.0.saw, subst (λ (n : ℕ). HasPlan g.D.Disk.told g.D.Disk.state o n seen c.in-Rolling.driver.value.p (plan_of c.args.op.now c.in-Rolling.driver.value.rolling c.in-Rolling.bytes)) (sym c.take.ensures.pass.1) took.1)
+    (seen, took.0.saw, subst (λ (n : ℕ). HasPlan g.D.Disk.told g.D.Disk.state o n seen c.in-Rolling.driver.value.p (plan_of c.args.op.now c.in-Rolling.driver.value.rolling c.in-Rolling.bytes)) (sym c.take.ensures.pass.goes.same.0) took.1)

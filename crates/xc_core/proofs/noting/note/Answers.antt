@@ -76,7 +76,7 @@ returns-in-Ok-append-clause-noted g c = λ b m.
     let p = c.make_ready.new.p in
     subst (λ (r : RollingAt). Starts g.D.Disk.told g.D.Disk.state b c.args.op.now (with_journal p j (Some c.args.op.now)) r) (sym m.unmade_is)
     (starts g.D.Disk.told g.D.Disk.state b c.args.op.now p (ready_home g (made_ready g c.before) b m) c.args.rolling.value.work c.args.bytes.now m.is c.in-Ok.ensures.ready.0 j c.append.ensures.whole (λ t. (c.append.ensures.appends t).kept)
-    j.1.reach (p.journal.1.count + 1) c.in-Ok-append.ensures.ok c.in-Ok.ensures.ready.1.0 (λ t. (c.in-Ok-append.ensures.appends t).ok.1) (λ t. (c.in-Ok-append.ensures.appends t).ok.0))
+    j.1.reach (p.journal.1.count + 1) c.in-Ok-append.ensures.ok c.in-Ok.ensures.ready.1.0 (λ t. (c.in-Ok-append.ensures.appends t).ok.1) (λ t. (c.in-Ok-append.ensures.appends t).ok.0) (λ t. (c.in-Ok-append.ensures.appends t).synced))
 
 pub returns-in-Err-append-clause-noted : goal.returns-in-Err-append-clause-noted
 returns-in-Err-append-clause-noted g c = λ b m.

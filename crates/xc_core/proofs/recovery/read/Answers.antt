@@ -1,4 +1,5 @@
 use Rattle.std.proofs.Common.{ℕ, List, sym, ap, subst}
+use Rattle.dxc_disk.proofs.DiskSteps.{no_more_synced}
 use Rattle.dxc_disk.proofs.LookSteps.{looks_settled}
 use Rattle.journal_core.specs.declared.book.Book.{Book}
 use Rattle.journal_core.specs.Headers.{Stands}
@@ -32,6 +33,7 @@ anew g c = record {
   same_book = c.replay.ensures.same;
   kept = λ t. c.replay.ensures.kept t (c.in-Ok.ensures.rereads t).kept;
   settled = λ t. looks_settled _ _ (c.replay.ensures.looks t) (c.in-Ok.ensures.rereads t).ok.0;
+  synced = λ t. no_more_synced _ _ (c.replay.ensures.no_more t) (c.in-Ok.ensures.rereads t).synced;
   stands = λ t. subst (λ (w : Book × List ℕ). Stands c.args.p.now.journal.1.shape w.0.head (listed w.0 w.1) (g.D.Disk.state c.args.p.now.journal.0).reads_as) (λ i. (sym c.replay.ensures.same i, sym (c.replay.ensures.looks t).same i)) (c.in-Ok.ensures.rereads t).ok.1;
   found = λ t. (c.in-Ok.ensures.rereads t).found;
 }

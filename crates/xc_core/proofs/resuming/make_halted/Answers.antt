@@ -1,5 +1,7 @@
 use Rattle.std.proofs.Common.{◌≡◌, true, false, None, Some, sym, ◌∙◌, ap, subst, inl, inr}
+use Rattle.dxc_disk.specs.Disks.{LeavesOnly}
 use Rattle.xc_core.specs.declared.provisioner.Provisioner.{Provisioner}
+use Rattle.xc_core.specs.Journals.{IsOldOrDoubted}
 use Rattle.xc_core.specs.Restarts.{IsHalted}
 use Rattle.xc_core.proofs.Standing.{marked_home}
 use Rattle.xc_core.proofs.resuming.make_halted.Goals as goal
@@ -42,3 +44,9 @@ returns-in_err-settle-clause-replayed g c = ap (λ (x : Provisioner g.row.D.Deno
 
 pub returns-in_err-settle-clause-mover : goal.returns-in_err-settle-clause-mover
 returns-in_err-settle-clause-mover g c = ap (λ (x : Provisioner g.row.D.Denot). x.mover) c.settle.ensures.others
+
+pub returns-then-halted-clause-any_moment : goal.returns-then-halted-clause-any_moment
+returns-then-halted-clause-any_moment g c = λ told b home. absurd (let e : false ≡ true = sym home.ready ∙ (sym c.halted.ensures ∙ c.if-halted.true) in cc)
+
+pub returns-clause-any_moment : goal.returns-clause-any_moment
+returns-clause-any_moment g c = λ told b home. subst (λ (x : Provisioner g.row.D.Denot). LeavesOnly (g.D.Disk.state c.args.p.now.journal.0) (g.D.Disk.state x.journal.0) (IsOldOrDoubted b c.args.p.now.doubt)) (sym c.halt.ensures) (c.settle.ensures.any_moment told b home)

@@ -5,6 +5,9 @@ use Rattle.xc_core.proofs.start.begun.Goals as goal
 pub returns-clause-state : goal.returns-clause-state
 returns-clause-state g c = refl
 
+pub returns-clause-disk : goal.returns-clause-disk
+returns-clause-disk g c = c.of-origin.ensures.disk
+
 pub returns-clause-table : goal.returns-clause-table
 returns-clause-table g c = c.of-origin.ensures.table
 

@@ -1,9 +1,9 @@
-use Rattle.std.proofs.Common.{◌≡◌, ℕ, Bool, List, Err, Ok, refl, subst, sym, ◌∙◌}
+use Rattle.std.proofs.Common.{◌≡◌, ℕ, Bool, List, Err, Ok, refl, ap, subst, sym, ◌∙◌}
 use Rattle.dxc_causes.specs.Causes.{HasCause}
 use Rattle.dxc_disk.proofs.DiskSteps.{spends_none}
 use Rattle.dxc_disk.proofs.LookSteps.{looks_same}
 use Rattle.dxc_num.specs.Dimensions.{Dimensions}
-use Rattle.dxc_disk.specs.Disks.{DiskState, Leaves, LeavesOnly, Spends}
+use Rattle.dxc_disk.specs.Disks.{DiskState, Leaves, LeavesOnly, Spends, files}
 use Rattle.journal_core.specs.declared.head.Head.{Head}
 use Rattle.journal_core.specs.Opens.{IsRefused, OpensNew, OpensOld, made_head}
 use Rattle.journal_core.specs.Turns.{Passing}
@@ -86,6 +86,7 @@ returns-clause-ok g c =
     subst (λ (x : Start g.row.D.Denot). IsStart g.D.Disk.told g.D.Disk.state c.args.shelf.now a c.args.mover x) (sym c.start_of.ensures)
     (record {
       journal = j;
+      handed = ap (λ (d : g.row.D.Denot). files (g.D.Disk.state d).readings) c.of-handed.ensures;
       fresh = c.in-Ok.ensures.fresh;
       held = refl;
       old = λ told old. subst (λ (d : Dimensions). OpensOld d a b (Ok j.1)) c.shape-shape.ensures (c.in-Ok-open.ensures.old told old);
@@ -96,6 +97,7 @@ returns-clause-ok g c =
       still = c.in-Ok-open.ensures.whole.3;
       same = c.replay.ensures.same;
       looks = c.replay.ensures.looks;
+      no_more = c.replay.ensures.no_more;
       kept = c.replay.ensures.kept;
       records = read.0;
       number = read.1;

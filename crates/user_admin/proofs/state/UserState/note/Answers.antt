@@ -44,7 +44,10 @@ returns-in-Err-clause-noted g c = λ o h place op is.
     has_failed g.D.Disk.told g.D.Disk.state o s h is.stands _ refl (ap (λ (x : Lists). x.described) l) c.keep.ensures.shape (λ told. g.met.D.Disk.is_disk n.0 told) (g.met.D.Disk.counts_on n.0) c.keep.ensures.book place op ch
     is.granted (ap (λ (x : Lists). x.users) l)
     (subst (λ (x : Lists). (doubt : Option UserChange) → IsAtHome g.D.Disk.told (g.D.Disk.state s.journal.0) s.journal.1 x.described x.users doubt → IsAtHome g.D.Disk.told (g.D.Disk.state n.0) n.1 x.described x.users doubt ⊎ IsAtHome g.D.Disk.told (g.D.Disk.state n.0) n.1 x.described x.users (Some ch)) l c.in-Err.ensures.failed)
-    (c.in-Err.ensures.cause.cause refl) c.in-Err.ensures.room
+    (c.in-Err.ensures.cause.cause refl) c.in-Err.ensures.room (g.met.D.Disk.is_disk s.journal.0)
+    (λ told. change_left g.D.Disk.told g.D.Disk.state o s h is.stands op ch (g.D.Disk.state n.0) is.granted
+    (subst (λ (x : Lists). (doubt : Option UserChange) → IsAtHome g.D.Disk.told (g.D.Disk.state s.journal.0) s.journal.1 x.described x.users doubt → LeavesOnly (g.D.Disk.state s.journal.0) (g.D.Disk.state n.0) (IsOldOrOneMore s.journal.1.shape x.described x.users doubt ch)) l (c.keep.ensures.any_moment told))
+    (g.met.D.Disk.is_disk s.journal.0))
 
 pub returns-in-Err-clause-any_moment : goal.returns-in-Err-clause-any_moment
 returns-in-Err-clause-any_moment g c = λ told o h op st granted.
@@ -75,7 +78,11 @@ returns-clause-noted g c = λ o h place op is.
     was_done g.D.Disk.told g.D.Disk.state o s h is.stands _ refl (ap (λ (x : Lists). x.described) l) c.keep.ensures.shape (λ told. g.met.D.Disk.is_disk n.0 told) (g.met.D.Disk.counts_on n.0) c.keep.ensures.book place op ch is.names
     is.granted (c.take.ensures ∙ ap (λ (x : Lists). effect ch x.users) l)
     (subst (λ (x : Lists). (doubt then_doubt : Option UserChange) → IsAtHome g.D.Disk.told (g.D.Disk.state s.journal.0) s.journal.1 x.described x.users doubt → IsAtHome g.D.Disk.told (g.D.Disk.state n.0) n.1 x.described (effect ch x.users) then_doubt) l c.in-Ok.ensures.kept)
-    c.keep.ensures.cause.later c.in-Ok.ensures.room
+    c.keep.ensures.cause.later c.in-Ok.ensures.room (g.met.D.Disk.is_disk s.journal.0)
+    (λ told. change_left g.D.Disk.told g.D.Disk.state o s h is.stands op ch (g.D.Disk.state n.0) is.granted
+    (subst (λ (x : Lists). (doubt : Option UserChange) → IsAtHome g.D.Disk.told (g.D.Disk.state s.journal.0) s.journal.1 x.described x.users doubt → LeavesOnly (g.D.Disk.state s.journal.0) (g.D.Disk.state n.0) (IsOldOrOneMore s.journal.1.shape x.described x.users doubt ch)) l (c.keep.ensures.any_moment told))
+    (g.met.D.Disk.is_disk s.journal.0))
+    c.in-Ok.ensures.synced
 
 pub returns-clause-any_moment : goal.returns-clause-any_moment
 returns-clause-any_moment g c = λ told o h op st granted.

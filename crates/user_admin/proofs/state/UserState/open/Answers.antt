@@ -1,7 +1,8 @@
 use Rattle.std.proofs.Common.{ℕ, ◌≤◌, Err, Ok, sym, ◌∙◌, ap, subst, arith}
 use Rattle.std.specs.FinMap.{len}
 use Rattle.dxc_causes.specs.Causes.{HasCause}
-use Rattle.dxc_disk.specs.Disks.{Spends}
+use Rattle.std.specs.declared.snapshot.Snapshot.{Snapshot}
+use Rattle.dxc_disk.specs.Disks.{Spends, files}
 use Rattle.dxc_disk.proofs.DiskSteps.{spends_more, spends_none}
 use Rattle.dxc_disk.proofs.LookSteps.{looks_same}
 use Rattle.dxc_num.specs.Dimensions.{Dimensions}
@@ -102,13 +103,16 @@ returns-clause-ok g c =
     let count = c.users-few.ensures.count in
     let most = c.users-few.ensures.few in
     let few : len (shelf_users shelf) ≤ most_users = omega (arith, size, count, most) in
-    opened g.D.Disk.told g.D.Disk.state shelf a b j.1 _ read.0 c.of-origin.ensures.shelf (c.of-origin.ensures.users ∙ ap (λ (l : Lists). l.users) c.deref.ensures) c.of-origin.ensures.journal
+    opened g.D.Disk.told g.D.Disk.state shelf a b j.1 _ read.0 c.of-origin.ensures.shelf (ap (λ (d : Snapshot g.row.D.Denot). (g.D.Disk.state d.value).readings) c.of-origin.ensures.disk ∙ ap (λ (d : g.row.D.Denot). (g.D.Disk.state d).readings) c.of-handed.ensures) (c.of-origin.ensures.users ∙ ap (λ (l : Lists). l.users) c.deref.ensures) c.of-origin.ensures.journal
     (c.copy_of-sid.ensures ∙ c.sid.ensures) (c.fold.ensures.described ∙ described) few (described_users shelf c.users-few.ensures.described)
     (λ told old. subst (λ (d : Dimensions). OpensOld d a b (Ok j.1)) c.shape.ensures (c.in-Ok-open.ensures.old told old))
     (λ told new. subst (λ (w : Dimensions × ℕ). OpensNew w.0 (made_head w.1) a b (Ok j.1)) (λ k. (c.shape.ensures k, c.equipped.ensures.value k)) (c.in-Ok-open.ensures.is_new told new))
-    (λ told. g.met.D.Disk.is_disk j.0 told) (λ told. g.met.D.Disk.is_disk n.0 told) (g.met.D.Disk.counts_on n.0)
+    (g.met.D.Disk.is_disk c.args.disk) (g.met.D.Disk.is_disk j.0) (g.met.D.Disk.is_disk n.0) (g.met.D.Disk.counts_on n.0)
     c.in-Ok-open.ensures.whole.0 (c.in-Ok-open.ensures.whole.1 ∙ c.shape.ensures) c.in-Ok-open.ensures.whole.2 c.in-Ok-open.ensures.whole.3
-    c.fold.ensures.same c.fold.ensures.looks c.fold.ensures.kept read.1 read.2 (subst (λ (m : Users). FoldsTo m read.0 c.fold.new.lists.users) described read.3)
+    c.fold.ensures.same c.fold.ensures.looks c.fold.ensures.no_more c.fold.ensures.kept read.1 read.2 (subst (λ (m : Users). FoldsTo m read.0 c.fold.new.lists.users) described read.3)
+
+pub returns-clause-handed : goal.returns-clause-handed
+returns-clause-handed g c = ap (λ (d : Snapshot g.row.D.Denot). files (g.D.Disk.state d.value).readings) c.of-origin.ensures.disk ∙ ap (λ (d : g.row.D.Denot). files (g.D.Disk.state d).readings) c.of-handed.ensures
 
 pub returns-clause-any_moment : goal.returns-clause-any_moment
 returns-clause-any_moment g c told =

@@ -2,7 +2,7 @@ use Rattle.std.proofs.Common.{◌≡◌, true, ap, subst, sym, ◌∙◌}
 use Rattle.std.specs.Prelude.{IfSome}
 use Rattle.dxc_num.specs.Dimensions.{IsInLimits}
 use Rattle.dxc_causes.specs.Causes.{HasCause}
-use Rattle.dxc_disk.specs.Disks.{Spends}
+use Rattle.dxc_disk.specs.Disks.{Spends, files}
 use Rattle.fabric_core.specs.declared.mover.Mover.{Mover}
 use Rattle.fabric_words.specs.Seats.{FabricId}
 use Rattle.xc_core.specs.declared.provisioner.Provisioner.{Provisioner}
@@ -51,7 +51,10 @@ returns-clause-state g c =
     let box = behind g c ∙ ap (λ (p : Provisioner g.row.D.Denot). record p { halted = true; spent = n }) r.held in
     subst (λ (s : State g.row.D.Denot). IsAdopting g.D.Disk.told (g.D.Disk.state c.args.disk).reads_as c.args.shelf.now c.args.mover (opening_of g.D.Disk.state s) × Begins g.D.Disk.told g.D.Disk.state s × HasSeat c.args.mover s)
     (sym (c.begun.ensures.state ∙ (λ i. record { table = k.table i; reports = k.reports i; home = In (h.driver); origin = c.begun.result.origin })))
-    (adopted g.D.Disk.told g.D.Disk.state c.args.shelf.now (g.D.Disk.state c.args.disk) c.args.mover x r (λ told. g.met.D.Disk.is_disk r.journal.0 told) limits n on c.begun.result.origin h.driver box (c.begun.ensures.table ∙ k.table) c.begun.ensures.provisioner (c.begun.ensures.last ∙ k.last))
+    (adopted g.D.Disk.told g.D.Disk.state c.args.shelf.now (g.D.Disk.state c.args.disk) c.args.mover x r (λ told. g.met.D.Disk.is_disk r.journal.0 told) limits n on c.begun.result.origin h.driver box (c.begun.ensures.table ∙ k.table) c.begun.ensures.provisioner (c.begun.ensures.last ∙ k.last) (c.begun.ensures.disk ∙ k.handed) (λ told. (g.met.D.Disk.is_disk c.args.disk told, g.met.D.Disk.is_disk x.p.journal.0 told)))
+
+pub returns-clause-handed : goal.returns-clause-handed
+returns-clause-handed g c = ap (λ (d : g.row.D.Denot). files (g.D.Disk.state d).readings) (c.begun.ensures.disk ∙ c.in-Ok-house.ensures.handed) ∙ c.in-Ok.ensures.ok.handed
 
 -- what holds of its disk holds of the one that is home
 at_home : (g : given.Over) (c : goal.After-begun g) (P : g.row.D.Denot → Type 0) → P c.in-Ok.read.p.journal.0 → IfSome (disk_home c.begun.result.home) P

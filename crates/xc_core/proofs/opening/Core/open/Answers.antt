@@ -3,7 +3,7 @@ use Rattle.std.specs.Prelude.{IfSome, replicate}
 use Rattle.std.specs.Box.{with_value}
 use Rattle.dxc_outside.specs.declared.gate.GatePlace.TheVariants.{Register}
 use Rattle.dxc_causes.specs.Causes.{HasCause}
-use Rattle.dxc_disk.specs.Disks.{Spends}
+use Rattle.dxc_disk.specs.Disks.{Spends, files}
 use Rattle.fabric_words.specs.Seats.{FabricId, MoverAt}
 use Rattle.journal_core.specs.declared.book.Book.{Book}
 use Rattle.paull_matrix.specs.Colourings.{Colouring, IsProperColouring}
@@ -61,7 +61,10 @@ returns-clause-ok g c =
     let behind = c.join_all.ensures.others ∙ ap (λ (y : Provisioner g.row.D.Denot). record y { mover = q.mover; spent = q.spent }) (e ∙ r.held) in
     subst (λ (s : State g.row.D.Denot). IsOpening g.D.Disk.told (g.D.Disk.state c.args.disk).reads_as c.args.shelf.now c.args.fabric.now (opening_of g.D.Disk.state s) × Begins g.D.Disk.told g.D.Disk.state s) (sym (state_is x c.in-Ok-house.housed d c.begun.result c.begun.ensures.state k))
     (opened g.D.Disk.told g.D.Disk.state c.args.shelf.now (g.D.Disk.state c.args.disk) c.args.mover x r (λ told. g.met.D.Disk.is_disk r.journal.0 told)
-    q.mover rest joins c.args.fabric.now q.spent c.begun.result.origin d joined.0 c.join_all.ensures.spent behind (c.begun.ensures.table ∙ k.table) c.begun.ensures.provisioner (c.begun.ensures.last ∙ k.last))
+    q.mover rest joins c.args.fabric.now q.spent c.begun.result.origin d joined.0 c.join_all.ensures.spent behind (c.begun.ensures.table ∙ k.table) c.begun.ensures.provisioner (c.begun.ensures.last ∙ k.last) (c.begun.ensures.disk ∙ k.handed) (λ told. (g.met.D.Disk.is_disk c.args.disk told, g.met.D.Disk.is_disk x.p.journal.0 told)))
+
+pub returns-clause-handed : goal.returns-clause-handed
+returns-clause-handed g c = ap (λ (d : g.row.D.Denot). files (g.D.Disk.state d).readings) (c.begun.ensures.disk ∙ c.in-Ok-house.ensures.handed) ∙ c.in-Ok.ensures.ok.handed
 
 -- the journal is the one that was read
 journal_is : (g : given.Over) (c : goal.After-begun g) → c.join_all.new.p.journal ≡ c.in-Ok.read.p.journal
