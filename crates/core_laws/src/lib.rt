@@ -14,7 +14,7 @@ pub fn limits_are_one()
 {}
 
 /// A change of connections in a network of r modules moves at most 3 (r - 1) circuits (Paull 1962), of both its legs together; while a middle
-/// is out of service, at most one for each leg. A middle that is taken out or put back moves at most r.
+/// is out of service, at most two. A middle that is taken out or put back moves at most r.
 pub fn moves_are_few()
     ensures legs { MovesAreFew }
     ensures middles { MiddlesMoveFew }
@@ -31,8 +31,8 @@ pub fn stopped_are_adopted<D: Disk>()
     ensures { StoppedAreAdopted D.told D.state }
 {}
 
-/// Where a primary stopped while Joined, its standby goes on: the standby's file stands for every command that was acknowledged, and isn't
-/// strange to the primary's registers.
+/// Where no call came after the last sync that a primary answered while Joined, its standby can go on: the standby's file stands for every command
+/// that was acknowledged, and isn't strange to the primary's registers.
 pub fn standbys_are_adopted<D: Disk>()
     ensures synced { SyncedAreMirrored D.told D.state }
     ensures adopted { StandbysAreAdopted D.told D.state }

@@ -22,7 +22,7 @@ use Rattle.xc_core.specs.States.{IsUncertain, Opening, outset_of}
 use Rattle.core_laws.specs.Mirrorings.{EndedBy, EndedByReading, StandsForFirst}
 
 -- Each file that a crash may leave of the journal stands for these changes, or for these and the one in doubt. One that a crash at an earlier moment left stands for
--- the changes of the first operations that made these, and so does a standby's.
+-- the changes of the first operations that made these, or for one more, and so does a standby's.
 pub record StandsForChanges {D : Type 0} (told : Type 0) (state : D → DiskState) (o : Opening) (h : List Entry) (p : Provisioner D) : Type 0 where
   pub past : Past
   pub reckoned : ReckonsTo o.first (changes_of h) past
@@ -34,14 +34,15 @@ pub record StandsForChanges {D : Type 0} (told : Type 0) (state : D → DiskStat
   -- the first of them, with all that had ended by that end, and maybe for one more.
   pub crashes : (t : told) → (at : ℕ) (file : List ℕ) → EndsAt (read t).operations at → (state p.journal.0).left_since at file
       → StandsForFirst o.first (read t).operations p.doubt (EndedBy (read t).operations at) file
-  -- Whoever stood by, and whenever either end stopped or was lost, in the middle of an operation too: by its name the standby's copy is no file, or one that stands for
-  -- the changes of the first of these operations, and maybe for one more. All operations that ended by the last sync that was answered while Joined are among the first.
+  -- Of each primary that the disk reads along with, whenever either end stopped or was lost, in the middle of an operation too: by its name its standby's copy is no
+  -- file, or one that stands for the changes of the first of these operations, and maybe for one more. All operations that ended by the last sync that was answered
+  -- while Joined are among the first.
   pub standby : (t : told) → (pair : Pair) (by : ℕ) → length o.readings ≤ by → (0 < pair.standby.synced → KeepsUp pair) → ReadsAlong (state p.journal.0) pair.primary by
       → IfSome (named pair.standby) (StandsForFirst o.first (read t).operations p.doubt (EndedByReading (outset_of o) (read t).operations by))
-  -- Where nothing is uncertain, and the mirror is Joined, the standby is current.
+  -- Where nothing is uncertain, and the mirror is Joined, the primary is current: no call came after the last sync that it answered.
   pub joined : told → (IsUncertain h → ⊥) → (line : LineState) (primary : Primary) (by : ℕ) → Mirrors told (mirrored (state p.journal.0) line) primary by → line.lost ≡ None
       → IsCurrent (state p.journal.0) primary
-  -- The file of one that is current stands for all of these changes, or for these and the one in doubt; and it isn't strange to the registers.
+  -- The file of a standby whose primary is current stands for all of these changes, or for these and the one in doubt; and it isn't strange to the registers.
   pub copy : told → (pair : Pair) → KeepsUp pair → IsCurrent (state p.journal.0) pair.primary → IsOldOrDoubted past p.doubt pair.standby.file
   pub adopted : told → (pair : Pair) → KeepsUp pair → IsCurrent (state p.journal.0) pair.primary
       → (shelf : Contents) → shelf.shape ≡ p.journal.1.shape → IsStrange (Unit {0}) pair.standby.file shelf p.mover → ⊥

@@ -96,7 +96,7 @@ module _ (w : World) where
     pub no_turn : (j : ℕ) (v : View) → get_elem? z.views j ≡ some v → v.stage ≢ Inside
     pub sees_on : (k : ℕ) (q : PlaceAt) (v : View) → slice_get lefts k ≡ Some q → get_elem? z.views (k + 1) ≡ some v → (more : List Gv) × (q.seat.seen ≡ v.seen ++ more)
 
-  -- what lies in the turnstile stands for this history, and so does what a crash then leaves
+  -- what lies in the turnstile stands for this history, and so does what a crash then leaves, where the Provisioner is home
   pub record LiesFor (o : Opening) (history : List Entry) (z : TableState (Option Lying) View) : Type 0 where
     pub lying : Lying
     pub at_home : z.homes ≡ some (Some lying) ∷ []
@@ -127,8 +127,8 @@ module _ (w : World) where
       pub moment : IsMoment (language s) (LimitBehind o.first) (λ q. IsTrue (excused q)) opened ts (behind history sessions) (changes_of earlier) (changes_of later)
       pub same_table : moment.element.table ≡ lies.lying.state.value.table
 
-    -- Of these turns, by which the sessions came to those: the moment at which the element had made this history. Each session had done a beginning of what it
-    -- did.
+    -- Among these turns, which lead to the sessions at the end: the moment at which the element had made this history. Each session had done a beginning of
+    -- what it does by the end.
     pub record WasPlayed (excused : Cause → Bool) (ts : List (Turn Request Moment)) (end : Sessions) (history : List Entry) : Type 0 where
       pub later : List (Turn Request Moment)
       pub earlier : List (Turn Request Moment)
@@ -147,13 +147,13 @@ module _ (w : World) where
       pub played : IsOrder excused turns (behind history sessions)
       pub moments : (z : TableState (Option Lying) View) → IsEarlier key lefts z → WasThen excused turns history sessions z
 
-    -- One that passes each beginning of the history: a turn stands in it behind no more of the table's history than its place had seen.
+    -- one that passes each beginning of the history
     pub record IsTimedOrder (excused : Cause → Bool) (key : Opened (Box (State w.Disk) Global)) (lefts : List PlaceAt) (history : List Entry) (sessions : Sessions) : Type 0 where
       pub one : IsOneOrder excused key lefts history sessions
       pub passes : (earlier later : List Entry) → earlier ++ later ≡ history → WasPlayed excused one.turns sessions earlier
 
   -- One history of the table and one of the users, for which those states stand: the plain element on what was opened comes to the one, and one list of users
-  -- to the other; the links that came to each place were written what the element writes its sessions.
+  -- to the other; the links that came to each place were written what the element writes its sessions, or a first part of it where a write failed.
   pub record IsOneElement (s : Contents) (o : Opening) (p : UsersOpening) (jobs : List (Job w)) (lefts : List PlaceAt) (key : Opened (Box (State w.Disk) Global)) (state : TableState (Option Lying) View) (users : TableState (Option UsersLying) View) : Type 0 where
     pub history : List Entry
     pub lies : LiesFor o history state
@@ -180,12 +180,13 @@ module _ (w : World) where
         WereWrittenThen (moment_at s o k v.seen ((y.passes was.earlier was.later was.whole).sessions k)) w.office.link.state (links_of w x.job x.done x.left x.ran) (sessions k)
     -- of each place the entries of both that it used, as it took them
     pub used : ℕ → List AnyEntry
+    -- its sessions did what took these, one after the other
     pub acted : (k : ℕ) → k < 16 → ActsAlong (language s) k o.first.fold.table p (began o.due) (began o.due ++ history) users_history (used k) (sessions k)
     -- the entries of both histories in one order, in which each place's own come as it took them
     pub order : List AnyEntry
     pub ordered : IsOrderOf history users_history 16 used order
     -- One order of turns plays both in that order, the element to the table's history, and along the same turns the list of users to theirs, and passes each
-    -- beginning of it; it is an order as `played` has one.
+    -- beginning of it; it has the moments of `played`, too.
     pub together : (excused : Cause → Bool) → AllByRecursion (IsExcused (λ q. IsTrue (excused q))) (began o.due ++ history) → (failing : Bool) → (1 ≤ failures users_history → IsTrue failing)
         → (x : ArePlayedInOrder (language s) (LimitBehind o.first) (λ q. IsTrue (excused q)) (opened s o) p (IsTrue failing) o.first.fold.table (began o.due) order history users_history sessions)
         × (y : IsOneOrder s o excused key lefts history sessions) × (y.turns ≡ x.turns)

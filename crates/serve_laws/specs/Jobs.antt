@@ -69,8 +69,8 @@ module _ (w : World) where
   abbrev pub links_of : (job : Job) (done : Done) (left : PlaceAt) → Ran job done left → List (w.office.Link × w.office.Link)
   links_of job done left ran = links_in w.disk.told w.uses.clock w.office.link w.uses.gate (standing job.place (w.uses.clock.coming job.clock) job.gate) ran.served.callers (standing left (w.uses.clock.coming done.clock) done.gate) ran.served.served
 
-  -- The job of this number, and the place that it left: the links that came to it were written what the element writes these sessions, in which that
-  -- happened which was heard of the users.
+  -- The job of this number, and the place that it left: the links that came to it were written what the element writes these sessions, or a first part of it
+  -- where a write failed; and in the sessions that happened of which the users told.
   pub record IsServedAt (jobs : List Job) (lefts : List PlaceAt) (k : ℕ) (ss : List (Session Request Moment)) (hs : List (Hearing Request)) : Type 0 where
     pub job : Job
     pub is : slice_get jobs k ≡ Some job

@@ -25,10 +25,11 @@ pub record IsKeeperHome {D : Type 0} (told : Type 0) (state : D → DiskState) (
   -- Whatever moment since the start a crash came at, also while a command was using their journal: the file that it leaves stands for the users after the first entries of
   -- that history, with all that had ended by then, and maybe with one change more.
   pub crashes : (t : told) (n : ℕ) (file : List ℕ) → n ≤ length (entries_of left) → (state users.value.journal.0).left_since (ended (stands.read t) n) file → StandsForEntries o (entries_of left) n file
-  -- Whoever stood by, and whenever either end stopped or was lost: by its name the standby's copy of their journal is no file, or one that stands for the users after the
-  -- first operations of that history, and maybe for one change more. All operations that ended by the last sync that was answered while Joined are among the first.
+  -- Of each primary that the disk reads along with, whenever either end stopped or was lost: by its name its standby's copy of their journal is no file, or one that
+  -- stands for the users after the first operations of that history, and maybe for one change more. All operations that ended by the last sync that was answered
+  -- while Joined are among the first.
   pub standby : (t : told) → (pair : Pair) (by : ℕ) → length o.readings ≤ by → (0 < pair.standby.synced → KeepsUp pair) → ReadsAlong (state users.value.journal.0) pair.primary by
       → IfSome (named pair.standby) (StandsForOperations (stands.read t) by)
-  -- Where no change is in doubt, and the mirror is Joined, it stands for the users after all of them.
+  -- Where no change is in doubt, and the mirror is Joined, there is no file, or it stands for the users after all of them.
   pub joined : told → ((c : UserChange) → IsInDoubt o (entries_of left) c → ⊥) → (pair : Pair) (line : LineState) (by : ℕ) → (0 < pair.standby.synced → KeepsUp pair)
       → Mirrors told (mirrored (state users.value.journal.0) line) pair.primary by → line.lost ≡ None → IfSome (named pair.standby) (IsFileOf o (entries_of left))

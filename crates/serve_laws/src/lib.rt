@@ -20,11 +20,12 @@ use user_laws::{crashes_stand_for_users, standbys_stand_for_users};
 /// allow and in which passes and workers know what the places and seats know that jobs left.
 ///
 /// One history of the table and one of the users stand behind them. One plain element, begun on what was opened, comes to the one by some order of turns, and
-/// wrote each link its bytes; one list of users comes to the other, and told what each session heard. The entries of both have one order, in which each place's
-/// own come as it took them, and one order of turns plays both in it. Each file that a crash may leave of the journal, where the Provisioner is home, stands for
-/// that history's changes, or for one more; at whatever earlier moment since the start it came, for those of its first operations, with all that had ended by
-/// then, or for one more. And by its name a standby's copy is no file, or stands for the changes of the history's first operations, with all that
-/// ended by the last sync which was answered while Joined. The fabric is hitless, and each frame was carried over its own connections.
+/// wrote each link its bytes, or a first part where a write failed; one list of users comes to the other, and told what each session heard. The entries of both
+/// have one order, in which each place's own come as it took them, and one order of turns plays both in it. Each file that a crash may leave of the journal, where
+/// the Provisioner is home, stands for that history's changes, or for one more. One that a crash at an earlier moment left, since the start, stands for those of
+/// its first operations, with all that had ended by then, or for one more. So does a standby's copy, where its name has a file: of each primary that
+/// the journal's disk reads along with, with all that ended by the last sync which that answered while Joined. The fabric is hitless, and each frame was carried over
+/// its own connections.
 ///
 /// Each premise is what clauses give, or the kit's model. The jobs, what they did and left, and that their places are of one turnstile of each: `run` of
 /// `dxc_run`, by `places` of `open_places` and `left` of `run_all`. That a turnstile was made with a state of the opening, for so many passes: `turns` of

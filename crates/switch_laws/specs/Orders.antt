@@ -41,7 +41,7 @@ use Rattle.switch_laws.specs.Moments.{AreBegun, IsBegun}
 abbrev pub AnyMark : Type 0
 AnyMark = Entry ⊎ UserMark
 
--- a place uses of it what it uses of the entries among it
+-- a place uses a mark where it uses the entry that the mark is; one that took the keeper is no entry
 abbrev pub is_used_mark : ℕ → AnyMark → Bool
 is_used_mark place (inl e) = is_used place (inl e)
 is_used_mark place (inr (Entered n op out)) = is_used place (inr (user_entry n op.value out))

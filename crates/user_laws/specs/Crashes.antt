@@ -7,7 +7,7 @@ use Rattle.user_admin.specs.Histories.{Opening}
 use Rattle.user_admin.specs.Operations.{HasRead, IsFileAfter, IsFileWithChange, ended_at}
 use Rattle.user_admin.specs.States.{StandsFor}
 
--- or for the users after the history and then the change of this entry's operation
+-- a file stands for the users after the history and then the change of this entry's operation, where there is one
 abbrev pub IsFileWithNext : Opening → List UserEntry → Option UserEntry → List ℕ → Type 0
 IsFileWithNext o h None file = ⊥
 IsFileWithNext o h (Some e) file = IsFileWithChange o h e.op file
