@@ -20,8 +20,7 @@ pub fn standbys_stand_for_users<D: Disk>()
 {}
 
 /// At whatever moment since the start a crash came, also in the middle of a change: the file that it leaves stands for the users after the first entries
-/// of their history, and maybe for one change more, that of the next entry or one in doubt. All that had ended by then are among the first, and so all
-/// users' changes that were acknowledged.
+/// of their history, and maybe for one change more, that of the next entry or one in doubt. All that had ended by then are among the first.
 ///
 /// The moments at which operations ended, the state keeps wherever the users' keeper is home (`read` of `StandsFor`): nothing that was read later was read
 /// before them.
